@@ -1,0 +1,7 @@
+pub mod Counting
+pub mod Overlaps
+pub mod Tables
+pub mod Totals
+pub mod Extremes
+pub mod Strips
+pub mod Sharing

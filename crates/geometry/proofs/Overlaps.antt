@@ -1,0 +1,142 @@
+-- The sums that the code forms count the covered unit squares: a rectangle shares with a box the product of the two lengths in common, and
+-- disjoint rectangles add up.
+use Prim.Native.Nat.{ℕ, zero, suc, _+_, _-_, _*_, _≤_, _<_}
+use mathlib.Core.Path.{_≡_, refl, sym, ap, ap₂, _∙_}
+use mathlib.Core.Bool.{Bool, true, false, _&&_, _||_}
+use mathlib.Core.List.{List, [], _∷_}
+use mathlib.Core.Logic.{_⊎_, inl, inr}
+use native.Mathlib.Omega.{arith}
+use lib.Dec.{T, leb, ltb}
+use borrow.Author.Tests.{lt-ltb, le-ltb, le-leb, lt-leb, ltb-false}
+use Rattle.geometry.specs.declared.Rect.{Rect}
+use Rattle.geometry.specs.Count.{sum, span, boxSum, one-if}
+use Rattle.geometry.specs.Layout.{holds, covered, coveredArea, Disjoint}
+use Rattle.geometry.specs.Overlaps.{common, overlap, overlapSum, stripOf, stripSum}
+use Rattle.geometry.proofs.Counting.{le-or-lt, box-cong, box-le, box-plus, box-const, box-product}
+
+-- ---- tests as counts
+
+both : (p q : Bool) → one-if (p && q) ≡ one-if q * one-if p
+both true true = refl
+both true false = refl
+both false true = refl
+both false false = refl
+
+either : (p q : Bool) → (T p → T q → ⊥) → one-if (p || q) ≡ one-if p + one-if q
+either true true h = absurd (h tt tt)
+either true false h = refl
+either false true h = refl
+either false false h = refl
+
+pub one-if-small : (p : Bool) → one-if p ≤ 1
+one-if-small true = omega arith
+one-if-small false = omega arith
+
+-- ---- the numbers that two spans have in common
+
+-- whether x lies from a to before b
+abbrev between : (a b x : ℕ) → Bool
+between a b x = leb a x && ltb x b
+
+too-low : (a b x : ℕ) → x < a → one-if (between a b x) ≡ 0
+too-low a b x h = rw (lt-leb a x h)
+
+inside : (a b x : ℕ) → a ≤ x → x < b → one-if (between a b x) ≡ 1
+inside a b x h k = rw (le-leb a x h, lt-ltb x b k)
+
+too-high : (a b x : ℕ) → a ≤ x → b ≤ x → one-if (between a b x) ≡ 0
+too-high a b x h k = rw (le-leb a x h, le-ltb x b k)
+
+-- one number more on the right
+common-more : (a b c n : ℕ) → common a b c (c + n) + one-if (between a b (c + n)) ≡ common a b c (c + suc n)
+common-more a b c n = go (le-or-lt a (c + n)) (le-or-lt b (c + n))
+  where
+    go : (a ≤ c + n) ⊎ (c + n < a) → (b ≤ c + n) ⊎ (c + n < b) → common a b c (c + n) + one-if (between a b (c + n)) ≡ common a b c (c + suc n)
+    go (inr h) k = rw (too-low a b (c + n) h) (omega arith)
+    go (inl h) (inl k) = rw (too-high a b (c + n) h k) (omega arith)
+    go (inl h) (inr k) = rw (inside a b (c + n) h k) (omega arith)
+
+sum-common : (a b c n : ℕ) → sum n (λ i. one-if (between a b (c + i))) ≡ common a b c (c + n)
+unfolding sum
+sum-common a b c zero = omega arith
+sum-common a b c (suc n) = ap (λ (k : ℕ). k + one-if (between a b (c + n))) (sum-common a b c n) ∙ common-more a b c n
+
+pub span-common : (a b c d : ℕ) → span c d (λ x. one-if (leb a x && ltb x b)) ≡ common a b c d
+span-common a b c d = sum-common a b c (d - c) ∙ ends
+  where
+    ends : common a b c (c + (d - c)) ≡ common a b c d
+    ends = omega arith
+
+-- ---- rectangles in a box
+
+-- the unit squares of a box that one rectangle covers
+pub one-overlap : (r b : Rect) → boxSum b (λ x y. one-if (holds r x y)) ≡ overlap r b
+one-overlap r b =
+    box-cong b (λ x y. one-if (holds r x y)) (λ x y. one-if (between (r .y1) (r .y2) y) * one-if (between (r .x1) (r .x2) x))
+    (λ x y i. both (between (r .x1) (r .x2) x) (between (r .y1) (r .y2) y))
+    ∙ box-product b (λ x. one-if (between (r .x1) (r .x2) x)) (λ y. one-if (between (r .y1) (r .y2) y))
+    ∙ ap₂ _*_ (span-common (r .x1) (r .x2) (b .x1) (b .x2)) (span-common (r .y1) (r .y2) (b .y1) (b .y2))
+
+-- a rectangle that shares no square with the others adds its own
+pub area-cons : (r : Rect) (rs : List Rect) (b : Rect) → ((x y : ℕ) → T (holds r x y) → T (covered rs x y) → ⊥) →
+    coveredArea (r ∷ rs) b ≡ overlap r b + coveredArea rs b
+unfolding covered
+area-cons r rs b h =
+    box-cong b (λ x y. one-if (covered (r ∷ rs) x y)) (λ x y. one-if (holds r x y) + one-if (covered rs x y))
+    (λ x y i. either (holds r x y) (covered rs x y) (h x y))
+    ∙ box-plus b (λ x y. one-if (holds r x y)) (λ x y. one-if (covered rs x y))
+    ∙ ap (λ (k : ℕ). k + coveredArea rs b) (one-overlap r b)
+
+pub overlap-is-area : (rs : List Rect) (b : Rect) → Disjoint rs → coveredArea rs b ≡ overlapSum rs b
+unfolding covered Disjoint overlapSum
+overlap-is-area [] b d = box-const b 0 ∙ nothing
+  where
+    nothing : (b .y2 - b .y1) * ((b .x2 - b .x1) * 0) ≡ 0
+    nothing = omega arith
+overlap-is-area (r ∷ rs) b d =
+    area-cons r rs b (d .0)
+    ∙ ap (λ (k : ℕ). overlap r b + k) (overlap-is-area rs b (d .1))
+
+-- ---- strips
+
+-- a strip's sum is the sum of overlaps with the box between its rows, disjoint or not
+pub strip-is-overlap : (rs : List Rect) (x1 y1 x2 y2 : ℕ) →
+    stripSum (stripOf rs y1 y2) x1 x2 ≡ overlapSum rs (record { x1 = x1; y1 = y1; x2 = x2; y2 = y2 })
+unfolding stripOf stripSum overlapSum
+strip-is-overlap [] x1 y1 x2 y2 = refl
+strip-is-overlap (r ∷ rs) x1 y1 x2 y2 = go (strip-is-overlap rs x1 y1 x2 y2) (ltb 0 rows) refl
+  where
+    rows : ℕ
+    rows = common (r .y1) (r .y2) y1 y2
+
+    columns : ℕ
+    columns = common (r .x1) (r .x2) x1 x2
+
+    rest : ℕ
+    rest = overlapSum rs (record { x1 = x1; y1 = y1; x2 = x2; y2 = y2 })
+
+    go : stripSum (stripOf rs y1 y2) x1 x2 ≡ rest → (t : Bool) → ltb 0 rows ≡ t → stripSum (stripOf (r ∷ rs) y1 y2) x1 x2 ≡ columns * rows + rest
+    go ih true e = rw (e, stripOf) (ap (λ (k : ℕ). columns * rows + k) ih)
+    go ih false e = rw (e, stripOf) (ih ∙ none)
+      where
+        none : rest ≡ columns * rows + rest
+        none = omega (arith, ap (λ (k : ℕ). columns * k) zero-rows)
+          where
+            zero-rows : rows ≡ 0
+            zero-rows = omega (arith, ltb-false 0 rows e)
+
+pub strip-is-area : (rs : List Rect) (x1 y1 x2 y2 : ℕ) → Disjoint rs →
+    stripSum (stripOf rs y1 y2) x1 x2 ≡ coveredArea rs (record { x1 = x1; y1 = y1; x2 = x2; y2 = y2 })
+strip-is-area rs x1 y1 x2 y2 d =
+    strip-is-overlap rs x1 y1 x2 y2 ∙ sym (overlap-is-area rs (record { x1 = x1; y1 = y1; x2 = x2; y2 = y2 }) d)
+
+-- ---- bounds
+
+-- no more squares are covered than a box has
+pub area-small : (rs : List Rect) (b : Rect) → coveredArea rs b ≤ (b .x2 - b .x1) * (b .y2 - b .y1)
+area-small rs b =
+    omega (
+      arith,
+      box-le b (λ x y. one-if (covered rs x y)) (λ x y. 1) (λ x y i. one-if-small (covered rs x y)),
+      box-const b 1,
+    )

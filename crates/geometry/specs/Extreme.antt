@@ -1,0 +1,31 @@
+-- The one way in which an extreme is taken: rows in order, in a row columns in order, replaced only by a strictly better area.
+-- So the window that it names has the least y, then the least x.
+use Prim.Native.Nat.{ℕ, zero, suc, _*_}
+use mathlib.Core.Bool.{Bool, true, false}
+use lib.Dec.{ltb}
+use Rattle.geometry.specs.declared.Spot.{Spot}
+use Rattle.geometry.specs.declared.Sense.{Sense}
+use Rattle.geometry.specs.declared.Sense.the-variants.{Greatest, Least}
+
+-- whether an area is strictly better than the one that stands
+abbrev pub better : Sense → ℕ → ℕ → Bool
+better Greatest new old = ltb old new
+better Least new old = ltb new old
+
+-- the window at (x, y) with its value under f
+abbrev pub spotAt : (ℕ → ℕ → ℕ) → ℕ → ℕ → Spot
+spotAt f x y = record { area = f x y; x = x; y = y }
+
+-- what stands after one more window was looked at
+abbrev pub replaced : Sense → Spot → Spot → Spot
+replaced s old new = elim (better s (new .area) (old .area)) [ true ↦ new | false ↦ old ]
+
+-- the best of the first n starts of the row at y, t apart, where b stood before
+unfoldable pub bestInRow : Sense → (ℕ → ℕ → ℕ) → (t y n : ℕ) → Spot → Spot
+bestInRow s f t y zero b = b
+bestInRow s f t y (suc n) b = replaced s (bestInRow s f t y n b) (spotAt f (n * t) y)
+
+-- the best of the first m rows of n starts each, t apart on both axes, where b stood before
+unfoldable pub bestInRows : Sense → (ℕ → ℕ → ℕ) → (t n m : ℕ) → Spot → Spot
+bestInRows s f t n zero b = b
+bestInRows s f t n (suc m) b = bestInRow s f t (m * t) n (bestInRows s f t n m b)

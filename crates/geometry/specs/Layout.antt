@@ -1,0 +1,52 @@
+-- Document 01, "The job file" and "Areas": drawn rectangles, covered unit squares, the area of a window.
+use Prim.Native.Nat.{ℕ, _+_, _≤_}
+use mathlib.Core.Bool.{Bool, false, _&&_, _||_}
+use mathlib.Core.List.{List, [], _∷_}
+use lib.Dec.{T, leb, ltb}
+use lib.ListN.{length, getD}
+use Rattle.geometry.specs.declared.Rect.{Rect}
+use Rattle.geometry.specs.Count.{one-if, boxSum}
+
+-- a rectangle covers the unit squares from x1 to before x2 and from y1 to before y2
+abbrev pub holds : Rect → ℕ → ℕ → Bool
+holds r x y = (leb (r .x1) x && ltb x (r .x2)) && (leb (r .y1) y && ltb y (r .y2))
+
+-- a unit square is covered if a drawn rectangle covers it
+unfoldable pub covered : List Rect → ℕ → ℕ → Bool
+covered [] x y = false
+covered (r ∷ rs) x y = holds r x y || covered rs x y
+
+-- the area of a box: the number of its covered unit squares
+abbrev pub coveredArea : List Rect → Rect → ℕ
+coveredArea rs b = boxSum b (λ x y. one-if (covered rs x y))
+
+-- document 01's fault 9, "shares a unit square with one that stands": a covered unit square lies in the box
+abbrev pub sharesSquare : List Rect → Rect → Bool
+sharesSquare rs b = ltb 0 (coveredArea rs b)
+
+-- the window of side w at (x, y)
+abbrev pub window : ℕ → ℕ → ℕ → Rect
+window w x y = record { x1 = x; y1 = y; x2 = x + w; y2 = y + w }
+
+-- no unit square lies in two of the rectangles
+unfoldable pub Disjoint : List Rect → Type 0
+Disjoint [] = Unit {0}
+Disjoint (r ∷ rs) = ((x y : ℕ) → T (holds r x y) → T (covered rs x y) → ⊥) × Disjoint rs
+
+-- a table of numbers, four to a rectangle: X1 Y1 X2 Y2
+unfoldable pub rectsOf : List ℕ → List Rect
+rectsOf [] = []
+rectsOf (a ∷ []) = []
+rectsOf (a ∷ b ∷ []) = []
+rectsOf (a ∷ b ∷ c ∷ []) = []
+rectsOf (a ∷ b ∷ c ∷ d ∷ s) = record { x1 = a; y1 = b; x2 = c; y2 = d } ∷ rectsOf s
+
+-- the rectangle whose numbers stand from place i of a table
+abbrev pub rectAt : List ℕ → ℕ → Rect
+rectAt table i = record { x1 = getD table i 0; y1 = getD table (i + 1) 0; x2 = getD table (i + 2) 0; y2 = getD table (i + 3) 0 }
+
+-- what 64 bits ask of a table of drawn rectangles: at most 1,024, no corner past 2^20, no shared unit square
+pub record Drawn (table : List ℕ) : Type 0 where
+  pub few : length table ≤ 4096
+  pub small : (i : ℕ) → getD table i 0 ≤ 1048576
+  pub apart : Disjoint (rectsOf table)

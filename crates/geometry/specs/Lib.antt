@@ -1,0 +1,5 @@
+pub mod Count
+pub mod Layout
+pub mod Extreme
+pub mod Overlaps
+pub mod Cases

@@ -1,0 +1,162 @@
+// Rectangles, the covered area of a box, and what a search for an extreme finds.
+
+ghost use Prim.Native.Nat.{_+_, _*_, _≤_, _<_, min, max};
+ghost use mathlib.Core.Path.{_≡_};
+ghost use mathlib.Core.List.{[], _∷_};
+ghost use lib.ListN.{length, getD};
+ghost use Rattle.geometry.specs.Layout.{rectsOf, rectAt, coveredArea, sharesSquare, Drawn};
+ghost use Rattle.geometry.specs.Overlaps.{common, overlap, stripOf, stripSum, StripSmall, Written, Front};
+ghost use Rattle.geometry.specs.Extreme.{better, replaced};
+
+// The unit squares from x1 to before x2 and from y1 to before y2: a drawn
+// rectangle, a window, a tile.
+pub struct Rect {
+    pub x1: u64,
+    pub y1: u64,
+    pub x2: u64,
+    pub y2: u64,
+}
+
+// A window, named by its lower left corner, with its area.
+pub struct Spot {
+    pub area: u64,
+    pub x: u64,
+    pub y: u64,
+}
+
+// Which extreme is looked for.
+pub enum Sense {
+    Greatest,
+    Least,
+}
+
+pub fn smaller(a: u64, b: u64) -> u64
+    ensures { λ r. ⌜ r ≡ min a b ⌝ }
+{
+    if a < b { a } else { b }
+}
+
+pub fn larger(a: u64, b: u64) -> u64
+    ensures { λ r. ⌜ r ≡ max a b ⌝ }
+{
+    if a < b { b } else { a }
+}
+
+// How many numbers the spans a to b and c to d have in common.
+fn common_length(a: u64, b: u64, c: u64, d: u64) -> u64
+    ensures { λ r. ⌜ r ≡ common a b c d ⌝ }
+{
+    let end = smaller(b, d);
+    let start = larger(a, c);
+    if start < end { end - start } else { 0 }
+}
+
+// The unit squares that the rectangle at place i of a table shares with a box.
+fn overlap_at(rects: &[u64], i: usize, b: Rect) -> u64
+    requires { ⌜ i + 3 < length (now rects) ⌝ }
+    requires { ⌜ Drawn (now rects) ⌝ }
+    ensures { λ r. ⌜ r ≡ overlap (rectAt (now (rects .entry)) i) b ⌝ }
+{
+    let across = common_length(rects[i], rects[i + 2], b.x1, b.x2);
+    let down = common_length(rects[i + 1], rects[i + 3], b.y1, b.y2);
+    across * down
+}
+
+// The covered area of a box.
+pub fn area(rects: &[u64], b: Rect) -> u64
+    requires { ⌜ Drawn (now rects) ⌝ }
+    ensures { λ r. ⌜ r ≡ coveredArea (rectsOf (now (rects .entry))) b ⌝ }
+{
+    let mut total: u64 = 0;
+    let mut i: usize = 0;
+    while i + 3 < rects.len() {
+        total += overlap_at(rects, i, b);
+        i += 4;
+    }
+    total
+}
+
+// Whether a box shares a unit square with a drawn rectangle. Shared edges and
+// corners are none.
+pub fn shares_square(rects: &[u64], b: Rect) -> bool
+    requires { ⌜ Drawn (now rects) ⌝ }
+    ensures { λ r. ⌜ r ≡ sharesSquare (rectsOf (now (rects .entry))) b ⌝ }
+{
+    0 < area(rects, b)
+}
+
+// Writes what the rows y1 to y2 hold of the rectangle at place i of a table.
+fn strip_one(rects: &[u64], i: usize, y1: u64, y2: u64, out: &mut [u64], at: usize) -> usize
+    requires { ⌜ i + 3 < length (now rects) ⌝ }
+    requires { ⌜ at + 3 ≤ length (now out) ⌝ }
+    ensures { λ r. ⌜ Written (now (out .entry)) at (stripOf (rectAt (now (rects .entry)) i ∷ []) y1 y2) (now (out .exit)) r ⌝ }
+{
+    let rows = common_length(rects[i + 1], rects[i + 3], y1, y2);
+    if 0 < rows {
+        out[at] = rects[i];
+        out[at + 1] = rects[i + 2];
+        out[at + 2] = rows;
+        at + 3
+    } else {
+        at
+    }
+}
+
+// Writes the strip of the rows y1 to y2 at the front of a buffer, for areas of
+// boxes that differ in their columns alone.
+pub fn strip(rects: &[u64], y1: u64, y2: u64, out: &mut [u64]) -> usize
+    requires { ⌜ length (now rects) ≤ length (now out) ⌝ }
+    ensures { λ r. ⌜ Front (now (out .entry)) (stripOf (rectsOf (now (rects .entry))) y1 y2) (now (out .exit)) r ⌝ }
+{
+    let mut at: usize = 0;
+    let mut i: usize = 0;
+    while i + 3 < rects.len() {
+        at = strip_one(rects, i, y1, y2, out, at);
+        i += 4;
+    }
+    at
+}
+
+// What the rectangle at place i of a strip has between the columns x1 and x2.
+fn strip_term(strip: &[u64], i: usize, x1: u64, x2: u64) -> u64
+    requires { ⌜ i + 2 < length (now strip) ⌝ }
+    requires { ⌜ StripSmall (now strip) ⌝ }
+    ensures { λ r. ⌜ r ≡ common (getD (now (strip .entry)) i 0) (getD (now (strip .entry)) (i + 1) 0) x1 x2 * getD (now (strip .entry)) (i + 2) 0 ⌝ }
+{
+    common_length(strip[i], strip[i + 1], x1, x2) * strip[i + 2]
+}
+
+// The area that a strip has between the columns x1 and x2.
+pub fn strip_area(strip: &[u64], x1: u64, x2: u64) -> u64
+    requires { ⌜ StripSmall (now strip) ⌝ }
+    ensures { λ r. ⌜ r ≡ stripSum (now (strip .entry)) x1 x2 ⌝ }
+{
+    let mut total: u64 = 0;
+    let mut i: usize = 0;
+    while i + 2 < strip.len() {
+        total += strip_term(strip, i, x1, x2);
+        i += 3;
+    }
+    total
+}
+
+// Whether an area is strictly better than the one that stands.
+pub fn is_better(sense: Sense, new: u64, old: u64) -> bool
+    ensures { λ r. ⌜ r ≡ better sense new old ⌝ }
+{
+    match sense {
+        Sense::Greatest => old < new,
+        Sense::Least => new < old,
+    }
+}
+
+// What stands after one more window was looked at.
+pub fn better_of(sense: Sense, old: Spot, new: Spot) -> Spot
+    ensures { λ r. ⌜ r ≡ replaced sense old new ⌝ }
+{
+    if is_better(sense, new.area, old.area) {
+        new
+    } else {
+        old
+    }
+}
