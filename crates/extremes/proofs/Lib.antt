@@ -1,0 +1,8 @@
+pub mod Candidates
+pub mod Tried
+pub mod Leading
+pub mod Searches
+pub mod Lists
+pub mod Steps
+pub mod Promises
+pub mod Cases

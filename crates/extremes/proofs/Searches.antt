@@ -1,0 +1,121 @@
+-- The search among the candidates finds the extreme over all positions, with the same window.
+use Prim.Native.Nat.{ℕ, _-_, _≤_, _<_}
+use mathlib.Core.Path.{_≡_, refl, sym, _∙_}
+use mathlib.Core.Bool.{Bool, true, false}
+use mathlib.Core.Logic.{_⊎_, inl, inr}
+use mathlib.Core.List.{List, List·Memᴰ}
+use native.Mathlib.Omega.{arith}
+use lib.ListN.{take}
+use borrow.Author.Tests.{ltb-false}
+use Rattle.geometry.specs.declared.Rect.{Rect}
+use Rattle.geometry.specs.declared.Spot.{Spot}
+use Rattle.geometry.specs.declared.Sense.{Sense}
+use Rattle.geometry.specs.declared.Sense.the-variants.{Greatest, Least}
+use Rattle.geometry.specs.Layout.{Disjoint, rectsOf, Drawn}
+use Rattle.geometry.specs.Overlaps.{Front}
+use Rattle.geometry.specs.Extreme.{better, spotAt}
+use Rattle.geometry.proofs.Extremes.{NoLater, better-neither, IsBest, Start, start-at, start-in, rows-best-of-all, best-of-fewer, best-unique, Dispensable}
+use Rattle.extremes.specs.Exact.{windowArea, positions, extreme, exactRun}
+use Rattle.extremes.specs.Search.{candidates, leadingInRows, searched}
+use Rattle.extremes.proofs.Lists.{front-take}
+use Rattle.extremes.proofs.Candidates.{Better, NoBetter, FirstBest, at-start, candidate-across, candidate-up}
+use Rattle.extremes.proofs.Tried.{candidates-complete, candidates-within}
+use Rattle.extremes.proofs.Leading.{Listed, leading-best}
+
+-- what the tests say
+pub not-better : (s : Sense) (a b : ℕ) → better s a b ≡ false → NoBetter s a b
+not-better Greatest a b e = ltb-false b a e
+not-better Least a b e = ltb-false a b e
+
+worse : (s : Sense) (a b : ℕ) → better s a b ≡ false → (a ≡ b → ⊥) → Better s b a
+worse Greatest a b e h = omega (arith, ltb-false b a e)
+worse Least a b e h = omega (arith, ltb-false a b e)
+
+-- every position is a start, 1 apart
+abbrev pub Position : (n w x y : ℕ) → Type 0
+Position n w = Start 1 (positions n w) (positions n w)
+
+pub position : (n w x y : ℕ) → x ≤ n - w → y ≤ n - w → Position n w x y
+position n w x y h k = start-at (positions n w) (positions n w) x y (omega arith) (omega arith)
+
+pub extreme-best : (s : Sense) (rs : List Rect) (n w : ℕ) → IsBest s (windowArea rs w) (Position n w) (extreme s rs n w)
+unfolding extreme
+extreme-best s rs n w = rows-best-of-all s (windowArea rs w) 1 (positions n w) (positions n w) (omega arith) (omega arith)
+
+module _ (s : Sense) (rs : List Rect) (n w : ℕ) (e : Spot) (h : IsBest s (windowArea rs w) (Position n w) e) where
+  pub x-in : e .x ≤ n - w
+  x-in = omega (arith, start-in (positions n w) (positions n w) (e .x) (e .y) (h .was-seen) .0)
+
+  pub y-in : e .y ≤ n - w
+  y-in = omega (arith, start-in (positions n w) (positions n w) (e .x) (e .y) (h .was-seen) .1)
+
+  -- the extreme is the first one in its row and in its column
+  best-at : (x y : ℕ) → x ≤ n - w → y ≤ n - w → NoBetter s (windowArea rs w x y) (windowArea rs w (e .x) (e .y))
+  best-at x y k l = not-better s _ _ (rw (h .area-is) at (h .none-better x y (position n w x y k l)))
+
+  first-at : (x y : ℕ) → x ≤ n - w → y ≤ n - w → (NoLater (e .x) (e .y) x y → ⊥) → Better s (windowArea rs w (e .x) (e .y)) (windowArea rs w x y)
+  first-at x y k l late =
+      worse s _ _ (rw (h .area-is) at (h .none-better x y (position n w x y k l)))
+      (λ q. late (h .first x y (position n w x y k l) (q ∙ sym (h .area-is))))
+
+  row-first : FirstBest s (λ z. windowArea rs w z (e .y)) (n - w) (e .x)
+  row-first = record { within = x-in; best = λ x l. best-at x (e .y) l y-in; first = λ x l. first-at x (e .y) (omega (arith, x-in)) y-in (later x l) }
+    where
+      later : (x : ℕ) → x < e .x → NoLater (e .x) (e .y) x (e .y) → ⊥
+      later x l (inl k) = omega arith
+      later x l (inr k) = omega (arith, k .1)
+
+  column-first : FirstBest s (λ z. windowArea rs w (e .x) z) (n - w) (e .y)
+  column-first =
+      record { within = y-in; best = λ y l. best-at (e .x) y x-in l; first = λ y l. first-at (e .x) y x-in (omega (arith, y-in)) (later y l) }
+    where
+      later : (y : ℕ) → y < e .y → NoLater (e .x) (e .y) (e .x) y → ⊥
+      later y l (inl k) = omega arith
+      later y l (inr k) = omega (arith, k .0)
+
+  -- so it is among the candidates
+  extreme-listed : Disjoint rs → Listed (candidates s 0 rs n w) (candidates s 1 rs n w) (e .x) (e .y)
+  extreme-listed d = (
+    candidates-complete s 0 rs n w (e .x) x-in (candidate-across s rs w (n - w) (e .x) (e .y) d row-first),
+    candidates-complete s 1 rs n w (e .y) y-in (candidate-up s rs w (n - w) (e .x) (e .y) d column-first),
+  )
+
+  -- and every other position is dispensable
+  others : Disjoint rs → (x y : ℕ) → Position n w x y → Dispensable s (windowArea rs w) (Listed (candidates s 0 rs n w) (candidates s 1 rs n w)) x y
+  others d x y p = (e .x, e .y, extreme-listed d, go (better s (windowArea rs w (e .x) (e .y)) (windowArea rs w x y)) refl)
+    where
+      go : (t : Bool) → better s (windowArea rs w (e .x) (e .y)) (windowArea rs w x y) ≡ t →
+          (better s (windowArea rs w (e .x) (e .y)) (windowArea rs w x y) ≡ true)
+          ⊎ ((windowArea rs w (e .x) (e .y) ≡ windowArea rs w x y) × NoLater (e .x) (e .y) x y)
+      go true q = inl q
+      go false q =
+          let same = better-neither s (windowArea rs w (e .x) (e .y)) (windowArea rs w x y) q (rw (h .area-is) at (h .none-better x y p)) in
+          inr (same, h .first x y p (sym same ∙ sym (h .area-is)))
+
+-- for disjoint rectangles the search among the candidates is the extreme over all positions
+pub searched-is-extreme : (s : Sense) (rs : List Rect) (n w : ℕ) → Disjoint rs → searched s rs n w ≡ extreme s rs n w
+unfolding searched
+searched-is-extreme s rs n w d =
+    best-unique s (windowArea rs w) (Position n w) _ _
+    (best-of-fewer s (windowArea rs w) (Listed (candidates s 0 rs n w) (candidates s 1 rs n w)) (Position n w) _ inside
+    (others s rs n w (extreme s rs n w) (extreme-best s rs n w) d) (leading-best s (windowArea rs w) _ _ 0 0 (start 0, start 1)))
+    (extreme-best s rs n w)
+  where
+    inside : (x y : ℕ) → Listed (candidates s 0 rs n w) (candidates s 1 rs n w) x y → Position n w x y
+    inside x y m = position n w x y (candidates-within s 0 rs n w x (m .0)) (candidates-within s 1 rs n w y (m .1))
+
+    start : (axis : ℕ) → List·Memᴰ 0 (candidates s axis rs n w)
+    start axis = candidates-complete s axis rs n w 0 (omega arith) (at-start refl)
+
+-- ---- what the code returns
+
+pub extreme-found : (s : Sense) (t : List ℕ) (n w : ℕ) (xb xs yb ys : List ℕ) (j k : ℕ) (r : Spot) → Drawn t →
+    Front xb (candidates s 0 (rectsOf t) n w) xs j → Front yb (candidates s 1 (rectsOf t) n w) ys k →
+    r ≡ leadingInRows s (windowArea (rectsOf t) w) (take j xs) (take k ys) (spotAt (windowArea (rectsOf t) w) 0 0) → r ≡ extreme s (rectsOf t) n w
+unfolding searched
+extreme-found s t n w xb xs yb ys j k r d f g e =
+    rw (front-take xb _ xs j f, front-take yb _ ys k g) at e ∙ searched-is-extreme s (rectsOf t) n w (d .apart)
+
+pub both-found : (rs : List Rect) (n w : ℕ) (g l : Spot) → g ≡ extreme Greatest rs n w → l ≡ extreme Least rs n w →
+    record { greatest = g; least = l } ≡ exactRun rs n w
+both-found rs n w g l p q = λ i. record { greatest = p i; least = q i }

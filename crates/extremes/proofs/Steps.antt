@@ -1,0 +1,97 @@
+-- What the code of the search finds on each way, and what its loops have passed and what is left.
+use Prim.Native.Nat.{ℕ, _+_, _≤_, _<_}
+use mathlib.Core.Path.{_≡_, refl, sym, ap, _∙_}
+use mathlib.Core.Bool.{Bool, true, false}
+use mathlib.Core.List.{List, [], _∷_}
+use native.Mathlib.Nat.{zero-add}
+use native.Mathlib.Numerals.{add-one}
+use lib.Dec.{ltb}
+use lib.ListN.{length, getD, take, drop, drop-of-length-le}
+use lib.Seq.{drop-cons}
+use borrow.Author.Tests.{lt-ltb, le-ltb, eq-eqb, ne-eqb}
+use Rattle.geometry.specs.declared.Spot.{Spot}
+use Rattle.geometry.specs.declared.Sense.{Sense}
+use Rattle.geometry.specs.declared.Rect.{Rect}
+use Rattle.geometry.specs.Layout.{rectsOf, coveredArea, Drawn}
+use Rattle.geometry.specs.Overlaps.{stripOf, stripSum, StripSmall, Front}
+use Rattle.geometry.specs.Extreme.{better, spotAt}
+use Rattle.geometry.proofs.Overlaps.{strip-is-area}
+use Rattle.geometry.proofs.Strips.{strip-small}
+use Rattle.extremes.specs.Exact.{windowArea}
+use Rattle.extremes.specs.Search.{earlier, leads, leading, passed, leadingInRow, leadingInRows, Small}
+use Rattle.extremes.proofs.Lists.{front-take}
+
+-- ---- which of two windows goes first
+
+module _ (new old : Spot) where
+  pub earlier-row : new .y < old .y → true ≡ earlier new old
+  earlier-row h = rw (lt-ltb _ _ h)
+
+  pub earlier-same : old .y ≤ new .y → new .y ≡ old .y → ltb (new .x) (old .x) ≡ earlier new old
+  earlier-same h e = rw (le-ltb _ _ h, eq-eqb _ _ e)
+
+  pub earlier-not : old .y ≤ new .y → (new .y ≡ old .y → ⊥) → false ≡ earlier new old
+  earlier-not h e = rw (le-ltb _ _ h, ne-eqb _ _ e)
+
+module _ (s : Sense) (new old : Spot) (r : Bool) (e : r ≡ better s (new .area) (old .area)) where
+  pub leads-better : r ≡ true → true ≡ leads s new old
+  leads-better h = rw (← e, h)
+
+  pub leads-tie : (q : Bool) → r ≡ false → new .area ≡ old .area → q ≡ earlier new old → q ≡ leads s new old
+  leads-tie q h a k = rw (← e, h, eq-eqb _ _ a) k
+
+  pub leads-not : r ≡ false → (new .area ≡ old .area → ⊥) → false ≡ leads s new old
+  leads-not h a = rw (← e, h, ne-eqb _ _ a)
+
+module _ (s : Sense) (new old : Spot) (r : Bool) (e : r ≡ leads s new old) where
+  pub leading-new : r ≡ true → new ≡ leading s old new
+  leading-new h = ap {B = Spot} (λ (t : Bool). elim t [ true ↦ new | false ↦ old ]) (sym h ∙ e)
+
+  pub leading-old : r ≡ false → old ≡ leading s old new
+  leading-old h = ap {B = Spot} (λ (t : Bool). elim t [ true ↦ new | false ↦ old ]) (sym h ∙ e)
+
+pub window-tried : (s : Sense) (b r : Spot) (a v x y : ℕ) → a ≡ v → r ≡ leading s b (record { area = a; x = x; y = y }) →
+    r ≡ leading s b (record { area = v; x = x; y = y })
+window-tried s b r a v x y e h = h ∙ ap (λ (k : ℕ). leading s b (record { area = k; x = x; y = y })) e
+
+-- ---- a loop over positions
+
+module _ (step : ℕ → Spot → Spot) (l : List ℕ) (start b : Spot) (i : ℕ) (whole : passed step (drop i l) b ≡ passed step l start) where
+  pub passed-next : (c : Spot) → i < length l → c ≡ step (getD l i 0) b → passed step (drop (i + 1) l) c ≡ passed step l start
+  unfolding passed
+  passed-next c h e = rw (add-one, e) (rw (drop-cons l i 0 h) at whole)
+
+  pub passed-end : length l ≤ i → b ≡ passed step l start
+  unfolding passed
+  passed-end h = rw (drop-of-length-le l h) at whole
+
+pub passed-cong : (step other : ℕ → Spot → Spot) (l : List ℕ) (b : Spot) → ((p : ℕ) (b : Spot) → step p b ≡ other p b) → passed step l b ≡ passed other l b
+unfolding passed
+passed-cong step other [] b h = refl
+passed-cong step other (p ∷ l) b h = passed-cong step other l (step p b) h ∙ ap (passed other l) (h p b)
+
+-- ---- positions and strips are small
+
+pub small-at : (l : List ℕ) (i : ℕ) → Small l → getD l i 0 ≤ 1048576
+small-at l i h = h .small i
+
+-- the strip at the front of a buffer
+pub strip-taken : (t before after : List ℕ) (y1 y2 r : ℕ) → Drawn t → Front before (stripOf (rectsOf t) y1 y2) after r → StripSmall (take r after)
+strip-taken t before after y1 y2 r d f = rw (front-take before _ after r f) (strip-small t y1 y2 d)
+
+pub strip-row : (t before after : List ℕ) (r : ℕ) (s : Sense) (w : ℕ) (xs : List ℕ) (y : ℕ) (b c : Spot) → Drawn t →
+    Front before (stripOf (rectsOf t) y (y + w)) after r → c ≡ leadingInRow s (λ x y. stripSum (take r after) x (x + w)) xs y b →
+    c ≡ leadingInRow s (windowArea (rectsOf t) w) xs y b
+strip-row t before after r s w xs y b c d f e =
+    e
+    ∙ passed-cong _ _ xs b
+    (λ x b. ap (λ (a : ℕ). leading s b (record { area = a; x = x; y = y }))
+    (ap (λ (l : List ℕ). stripSum l x (x + w)) (front-take before _ after r f) ∙ strip-is-area (rectsOf t) x y (x + w) (y + w) (d .apart)))
+
+-- the search begins with the window at (0, 0)
+pub rows-start : (rs : List Rect) (w a : ℕ) (s : Sense) (xs ys : List ℕ) → a ≡ coveredArea rs (record { x1 = 0; y1 = 0; x2 = w; y2 = w }) →
+    leadingInRows s (windowArea rs w) xs ys (record { area = a; x = 0; y = 0 }) ≡ leadingInRows s (windowArea rs w) xs ys (spotAt (windowArea rs w) 0 0)
+rows-start rs w a s xs ys e = ap (λ (k : ℕ). leadingInRows s (windowArea rs w) xs ys (record { area = k; x = 0; y = 0 })) (e ∙ moved)
+  where
+    moved : coveredArea rs (record { x1 = 0; y1 = 0; x2 = w; y2 = w }) ≡ windowArea rs w 0 0
+    moved = ap (λ (k : ℕ). coveredArea rs (record { x1 = 0; y1 = 0; x2 = k; y2 = k })) (sym (zero-add w))
