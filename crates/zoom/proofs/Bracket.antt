@@ -1,0 +1,227 @@
+-- Demand 3 for the quick run: the named window is a position with that area, and the extreme of the exact run lies between floor and ceiling.
+use Prim.Native.Nat.{ℕ, zero, suc, _+_, _-_, _*_, _/_, _≤_, _<_}
+use mathlib.Core.Path.{_≡_, refl, sym, subst}
+use mathlib.Core.Bool.{Bool, true, false}
+use mathlib.Core.List.{List}
+use native.Mathlib.Nat.{zero-mul, mul-le-mul-left}
+use native.Mathlib.Omega.{arith}
+use borrow.Author.Tests.{ltb-false, leb-true}
+use lib.Dec.{leb}
+use Rattle.geometry.specs.declared.Rect.{Rect}
+use Rattle.geometry.specs.declared.Spot.{Spot}
+use Rattle.geometry.specs.declared.Sense.{Sense}
+use Rattle.geometry.specs.declared.Sense.the-variants.{Greatest, Least}
+use Rattle.geometry.specs.Extreme.{better, spotAt, replaced}
+use Rattle.geometry.specs.Layout.{coveredArea, window}
+use Rattle.geometry.proofs.Totals.{small-product}
+use Rattle.geometry.proofs.Overlaps.{area-small}
+use Rattle.geometry.proofs.Extremes.{better-self, step-better, step-skip}
+use Rattle.extremes.specs.Exact.{windowArea, extreme}
+use Rattle.extremes.proofs.Searches.{position, extreme-best}
+use Rattle.extremes.proofs.Promises.{extreme-over-all}
+use Rattle.zoom.specs.declared.End.the-variants.{Met, Stopped, Exact}
+use Rattle.zoom.specs.declared.Level.{Level}
+use Rattle.zoom.specs.declared.Quick.{Quick}
+use Rattle.zoom.specs.Run.{lastLevel, tileSide, startsOn, bloated, shrunk, farArea, levelOf, lowEnd, highEnd, isMet, exactLevel, afterLevel, runFrom, quickRun}
+use Rattle.zoom.specs.Passing.{NoBetter}
+use Rattle.zoom.specs.Grid.{AtStart}
+use Rattle.zoom.proofs.Folds.{no-better-trans, rows-are, rows-stay, rows-see}
+use Rattle.zoom.proofs.Tiles.{tile-halves, tile-positive}
+use Rattle.zoom.proofs.Starts.{Below, at-start, start-stays, start-fits, start-below, half-start, window-within, far-halves}
+
+-- ---- the exact run
+
+-- a named window is a position, and has the area named with it
+pub record Placed (rs : List Rect) (n w : ℕ) (b : Spot) : Type 0 where
+  pub area : b .area ≡ windowArea rs w (b .x) (b .y)
+  pub across : b .x ≤ n - w
+  pub down : b .y ≤ n - w
+
+start-placed : (rs : List Rect) (n w t : ℕ) (b : Spot) → 1 ≤ t → AtStart rs n w t b → Placed rs n w b
+start-placed rs n w t b p a =
+    subst (λ (c : Spot). Placed rs n w c) (sym (a .is))
+    (record { area = refl; across = start-fits n w t (a .column) p (a .across); down = start-fits n w t (a .row) p (a .down) })
+
+extreme-placed : (s : Sense) (rs : List Rect) (n w : ℕ) → Placed rs n w (extreme s rs n w)
+extreme-placed s rs n w = let m = extreme-over-all s rs n w in record { area = m .area-is; across = m .x-in; down = m .y-in }
+
+placed-no-better : (s : Sense) (rs : List Rect) (n w : ℕ) (b : Spot) → Placed rs n w b → NoBetter s (b .area) (extreme s rs n w .area)
+placed-no-better s rs n w b p = rw (p .area) (extreme-best s rs n w .none-better (b .x) (b .y) (position n w (b .x) (b .y) (p .across) (p .down)))
+
+-- ---- a level
+
+pub level-at-start : (s : Sense) (rs : List Rect) (n w t : ℕ) (b : Spot) → AtStart rs n w t b → AtStart rs n w t (levelOf s rs n w t b .window)
+unfolding levelOf
+level-at-start s rs n w t b a =
+    rows-are s (windowArea rs w) t (startsOn n w t) (startsOn n w t) b (AtStart rs n w t) a (λ i j h k. at-start rs n w t i j h k)
+
+-- F never falls
+pub level-keeps : (s : Sense) (rs : List Rect) (n w t : ℕ) (b : Spot) → NoBetter s (b .area) (levelOf s rs n w t b .window .area)
+unfolding levelOf
+level-keeps s rs n w t b = rows-stay s (windowArea rs w) t (startsOn n w t) (startsOn n w t) b
+
+-- C is no worse than any far area, and than any position
+pub level-sees : (s : Sense) (rs : List Rect) (n w t : ℕ) (b : Spot) (i j : ℕ) → i < startsOn n w t → j < startsOn n w t →
+    NoBetter s (farArea s rs n w t (i * t) (j * t)) (levelOf s rs n w t b .bound)
+unfolding levelOf
+level-sees s rs n w t b i j h k = rows-see s (farArea s rs n w t) t (startsOn n w t) (startsOn n w t) (spotAt (farArea s rs n w t) 0 0) i j h k
+
+pub level-bounds : (s : Sense) (rs : List Rect) (n w t : ℕ) (b : Spot) (x y : ℕ) → 1 ≤ t → w ≤ n → x ≤ n - w → y ≤ n - w →
+    NoBetter s (windowArea rs w x y) (levelOf s rs n w t b .bound)
+level-bounds s rs n w t b x y p q h k =
+    let across : Below n w t x = start-below n w t x p h in
+    let down : Below n w t y = start-below n w t y p k in
+    no-better-trans s (windowArea rs w x y) (farArea s rs n w t (across .start * t) (down .start * t)) (levelOf s rs n w t b .bound)
+    (window-within s rs n w t x y (across .start * t) (down .start * t) (omega arith) (omega arith) (across .before) (across .close) (down .before) (down .close))
+    (level-sees s rs n w t b (across .start) (down .start) (across .counts) (down .counts))
+
+-- C never rises
+pub level-narrows : (s : Sense) (rs : List Rect) (n w t : ℕ) (b c : Spot) → 1 ≤ t →
+    NoBetter s (levelOf s rs n w t b .bound) (levelOf s rs n w (2 * t) c .bound)
+unfolding levelOf
+level-narrows s rs n w t b c p =
+    rows-are s (farArea s rs n w t) t (startsOn n w t) (startsOn n w t) (spotAt (farArea s rs n w t) 0 0)
+    (λ (a : Spot). NoBetter s (a .area) (levelOf s rs n w (2 * t) c .bound)) (rw (zero-mul t) at (each 0 0 (omega arith) (omega arith))) each
+  where
+    each : (i j : ℕ) → i < startsOn n w t → j < startsOn n w t → NoBetter s (farArea s rs n w t (i * t) (j * t)) (levelOf s rs n w (2 * t) c .bound)
+    each i j h k =
+        no-better-trans s (farArea s rs n w t (i * t) (j * t)) (farArea s rs n w (2 * t) (i / 2 * (2 * t)) (j / 2 * (2 * t)))
+        (levelOf s rs n w (2 * t) c .bound) (far-halves s rs n w t i j)
+        (level-sees s rs n w (2 * t) c (i / 2) (j / 2) (half-start n w t i p h) (half-start n w t j p k))
+
+-- ---- the run
+
+-- low ≤ m ≤ high, and the named window
+pub record Brackets (s : Sense) (rs : List Rect) (n w : ℕ) (v : Level) : Type 0 where
+  pub window : Placed rs n w (v .window)
+  pub low : lowEnd s v ≤ extreme s rs n w .area
+  pub high : extreme s rs n w .area ≤ highEnd s v
+
+brackets : (s : Sense) (rs : List Rect) (n w : ℕ) (v : Level) → Placed rs n w (v .window) → NoBetter s (extreme s rs n w .area) (v .bound) → Brackets s rs n w v
+brackets Greatest rs n w v p h =
+    record { window = p; low = ltb-false _ _ (placed-no-better Greatest rs n w (v .window) p); high = ltb-false _ _ h }
+brackets Least rs n w v p h = record { window = p; low = ltb-false _ _ h; high = ltb-false _ _ (placed-no-better Least rs n w (v .window) p) }
+
+pub level-brackets : (s : Sense) (rs : List Rect) (n w t : ℕ) (b : Spot) → 1 ≤ t → w ≤ n → AtStart rs n w t b → Brackets s rs n w (levelOf s rs n w t b)
+level-brackets s rs n w t b p q a =
+    brackets s rs n w (levelOf s rs n w t b) (start-placed rs n w t (levelOf s rs n w t b .window) p (level-at-start s rs n w t b a)) extreme-bounded
+  where
+    extreme-bounded : NoBetter s (extreme s rs n w .area) (levelOf s rs n w t b .bound)
+    extreme-bounded = let m = extreme-placed s rs n w in rw (m .area) (level-bounds s rs n w t b (extreme s rs n w .x) (extreme s rs n w .y) p q (m .across) (m .down))
+
+exact-brackets : (s : Sense) (rs : List Rect) (n w : ℕ) (b : Spot) → Placed rs n w b → Brackets s rs n w (exactLevel s b (extreme s rs n w))
+exact-brackets s rs n w b p = brackets s rs n w (exactLevel s b (extreme s rs n w)) (go (better s (extreme s rs n w .area) (b .area)) refl) (better-self s (extreme s rs n w .area))
+  where
+    go : (t : Bool) → better s (extreme s rs n w .area) (b .area) ≡ t → Placed rs n w (replaced s b (extreme s rs n w))
+    go true e = rw (step-better s b (extreme s rs n w) e) (extreme-placed s rs n w)
+    go false e = rw (step-skip s b (extreme s rs n w) e) p
+
+-- 1000 × |low + high − 2m| ≤ 2 × e × m, in both directions
+pub record Accurate (e m low high : ℕ) : Type 0 where
+  pub above : 1000 * (low + high) ≤ 2000 * m + 2 * e * m
+  pub below : 2000 * m ≤ 1000 * (low + high) + 2 * e * m
+
+accurate : (e m low high : ℕ) → low ≤ m → m ≤ high → 1000 * high ≤ (1000 + 2 * e) * low → Accurate e m low high
+accurate e m low high h k l = record { above = omega (arith, part); below = omega (arith, part) }
+  where
+    part : 2 * e * low ≤ 2 * e * m
+    part = mul-le-mul-left (2 * e) h
+
+-- the window that stands is a start of the first level, and of the next level if of this one
+pub first-start : (rs : List Rect) (n w : ℕ) → AtStart rs n w (tileSide w 0) (spotAt (windowArea rs w) 0 0)
+first-start rs n w =
+    subst (λ (x : ℕ). AtStart rs n w (tileSide w 0) (spotAt (windowArea rs w) x x)) (zero-mul (tileSide w 0))
+    (at-start rs n w (tileSide w 0) 0 0 (omega arith) (omega arith))
+
+next-start : (rs : List Rect) (n w j : ℕ) (b : Spot) → 1 ≤ w → j < lastLevel w → AtStart rs n w (tileSide w j) b → AtStart rs n w (tileSide w (suc j)) b
+next-start rs n w j b p h a =
+    start-stays rs n w (tileSide w (suc j)) b (tile-positive w (suc j) p h) (subst (λ (t : ℕ). AtStart rs n w t b) (tile-halves w j h) a)
+
+-- a run's answer: what holds of every level holds of its last one, and "met" means that the level is met
+record Ended (P : Level → Type 0) (s : Sense) (e : ℕ) (q : Quick) : Type 0 where
+  holds : P (q .last)
+  met : q .end ≡ Met → isMet s e (q .last) ≡ true
+
+after-level : (P : Level → Type 0) (s : Sense) (e v j : ℕ) (this : Level) (next : Quick) → P this → Ended P s e next → Ended P s e (afterLevel s e v j this next)
+after-level P s e v j this next b p = go (isMet s e this) refl (leb v (suc j))
+  where
+    go : (m : Bool) → isMet s e this ≡ m → (d : Bool) → Ended P s e (elim m [
+      | true ↦ record { end = Met; levels = suc j; last = this }
+      | false ↦ elim d [ true ↦ record { end = Stopped; levels = suc j; last = this } | false ↦ next ]
+    ])
+    go true h d = record { holds = b; met = λ _. h }
+    go false h true = record { holds = b; met = λ e. absurd (let z : _≡_ {A = ℕ} 0 1 = cc in omega arith) }
+    go false h false = p
+
+module _ (P : Level → Type 0) (s : Sense) (rs : List Rect) (n w e v : ℕ) (p : 1 ≤ w)
+    (each : (t : ℕ) (b : Spot) → 1 ≤ t → AtStart rs n w t b → P (levelOf s rs n w t b))
+    (exact : (t : ℕ) (b : Spot) → 1 ≤ t → AtStart rs n w t b → P (exactLevel s b (extreme s rs n w))) where
+  run-ends : (left j : ℕ) (b : Spot) → j + left ≡ lastLevel w → AtStart rs n w (tileSide w j) b → Ended P s e (runFrom s rs n w e v left j b)
+  unfolding runFrom
+  run-ends zero j b h a =
+      let this : Level = levelOf s rs n w (tileSide w j) b in
+      let positive : 1 ≤ tileSide w j = tile-positive w j p (omega arith) in
+      after-level P s e v j this (record { end = Exact; levels = suc (suc j); last = exactLevel s (this .window) (extreme s rs n w) })
+      (each (tileSide w j) b positive a)
+      (record {
+        holds = exact (tileSide w j) (this .window) positive (level-at-start s rs n w (tileSide w j) b a);
+        met = λ e. absurd (let z : _≡_ {A = ℕ} 0 1 = cc in omega arith);
+      })
+  run-ends (suc left) j b h a =
+      let this : Level = levelOf s rs n w (tileSide w j) b in
+      after-level P s e v j this (runFrom s rs n w e v left (suc j) (this .window)) (each (tileSide w j) b (tile-positive w j p (omega arith)) a)
+      (run-ends left (suc j) (this .window) (omega arith)
+      (next-start rs n w j (this .window) p (omega arith) (level-at-start s rs n w (tileSide w j) b a)))
+
+  quick-run-ends : Ended P s e (quickRun s rs n w e v)
+  unfolding quickRun
+  quick-run-ends = run-ends (lastLevel w) 0 (spotAt (windowArea rs w) 0 0) (omega arith) (first-start rs n w)
+
+-- what the quick run promises
+pub record Promised (s : Sense) (rs : List Rect) (n w e : ℕ) (q : Quick) : Type 0 where
+  pub brackets : Brackets s rs n w (q .last)
+  pub accurate : q .end ≡ Met → Accurate e (extreme s rs n w .area) (lowEnd s (q .last)) (highEnd s (q .last))
+
+pub quick-run-promises : (s : Sense) (rs : List Rect) (n w e v : ℕ) → 1 ≤ w → w ≤ n → Promised s rs n w e (quickRun s rs n w e v)
+quick-run-promises s rs n w e v p q =
+    let ended =
+    quick-run-ends (Brackets s rs n w) s rs n w e v p (λ t b h a. level-brackets s rs n w t b h q a)
+    (λ t b h a. exact-brackets s rs n w b (start-placed rs n w t b h a)) in
+    record {
+      brackets = ended .holds;
+      accurate = λ m. accurate e _ _ _ (ended .holds .low) (ended .holds .high) (leb-true _ _ (ended .met m));
+    }
+
+-- ---- bounds
+
+box-small : (rs : List Rect) (b : Rect) → b .x2 - b .x1 ≤ 1048576 → b .y2 - b .y1 ≤ 1048576 → coveredArea rs b ≤ 1099511627776
+box-small rs b h k = omega (arith, area-small rs b, small-product (b .x2 - b .x1) (b .y2 - b .y1) h k)
+
+far-small : (s : Sense) (rs : List Rect) (n w t x y : ℕ) → n ≤ 1048576 → w ≤ n → farArea s rs n w t x y ≤ 1099511627776
+far-small Greatest rs n w t x y h k = box-small rs (bloated n w t x y) (omega arith) (omega arith)
+far-small Least rs n w t x y h k = box-small rs (shrunk w t x y) (omega arith) (omega arith)
+
+-- what 64 bits ask of a level's numbers
+pub record LevelSmall (v : Level) : Type 0 where
+  pub window : v .window .area ≤ 1099511627776
+  pub bound : v .bound ≤ 1099511627776
+
+placed-small : (rs : List Rect) (n w : ℕ) (b : Spot) → n ≤ 1048576 → w ≤ n → Placed rs n w b → b .area ≤ 1099511627776
+placed-small rs n w b h k p = rw (p .area) (box-small rs (window w (b .x) (b .y)) (omega arith) (omega arith))
+
+pub level-small : (s : Sense) (rs : List Rect) (n w t : ℕ) (b : Spot) → n ≤ 1048576 → w ≤ n → 1 ≤ t → AtStart rs n w t b → LevelSmall (levelOf s rs n w t b)
+unfolding levelOf
+level-small s rs n w t b h k p a =
+    record {
+      window = placed-small rs n w (levelOf s rs n w t b .window) h k (start-placed rs n w t (levelOf s rs n w t b .window) p (level-at-start s rs n w t b a));
+      bound = rows-are s (farArea s rs n w t) t (startsOn n w t) (startsOn n w t) (spotAt (farArea s rs n w t) 0 0) (λ (c : Spot). c .area ≤ 1099511627776)
+          (far-small s rs n w t 0 0 h k) (λ i j p q. far-small s rs n w t (i * t) (j * t) h k);
+    }
+
+pub quick-run-small : (s : Sense) (rs : List Rect) (n w e v : ℕ) → 1 ≤ w → w ≤ n → n ≤ 1048576 → LevelSmall (quickRun s rs n w e v .last)
+quick-run-small s rs n w e v p q h =
+    quick-run-ends LevelSmall s rs n w e v p (λ t b l a. level-small s rs n w t b h q l a)
+    (λ t b l a. record {
+      window = placed-small rs n w (replaced s b (extreme s rs n w)) h q (exact-brackets s rs n w b (start-placed rs n w t b l a) .window);
+      bound = placed-small rs n w (extreme s rs n w) h q (extreme-placed s rs n w);
+    }) .holds

@@ -1,0 +1,73 @@
+-- What a search over starts finds, as the levels need it: no worse than what stood before and than each start, and one of them.
+use Prim.Native.Nat.{ℕ, zero, suc, _*_, _<_}
+use mathlib.Core.Path.{_≡_, refl, sym, ap₂, _∙_, subst}
+use mathlib.Core.Bool.{Bool, true, false}
+use mathlib.Core.Logic.{inl, inr}
+use native.Mathlib.Omega.{arith}
+use borrow.Author.Tests.{ltb-false, le-ltb}
+use Rattle.geometry.specs.declared.Spot.{Spot}
+use Rattle.geometry.specs.declared.Sense.{Sense}
+use Rattle.geometry.specs.declared.Sense.the-variants.{Greatest, Least}
+use Rattle.geometry.specs.Extreme.{better, spotAt, replaced, bestInRow, bestInRows}
+use Rattle.geometry.proofs.Extremes.{better-self, better-not, better-neither, step-better, step-skip, BestAfter, Start, after-no-worse, after-none-better, rows-best}
+use Rattle.zoom.specs.Passing.{NoBetter}
+
+pub no-better-trans : (s : Sense) (a b c : ℕ) → NoBetter s a b → NoBetter s b c → NoBetter s a c
+no-better-trans Greatest a b c h k = le-ltb c a (omega (arith, ltb-false b a h, ltb-false c b k))
+no-better-trans Least a b c h k = le-ltb a c (omega (arith, ltb-false a b h, ltb-false b c k))
+
+-- ---- a row
+
+replaced-stays : (s : Sense) (b c : Spot) → NoBetter s (b .area) (replaced s b c .area)
+replaced-stays s b c = go (better s (c .area) (b .area)) refl
+  where
+    go : (t : Bool) → better s (c .area) (b .area) ≡ t → NoBetter s (b .area) (replaced s b c .area)
+    go true e = rw (step-better s b c e) (better-not s (c .area) (b .area) e)
+    go false e = rw (step-skip s b c e) (better-self s (b .area))
+
+pub row-stays : (s : Sense) (f : ℕ → ℕ → ℕ) (t y n : ℕ) (b : Spot) → NoBetter s (b .area) (bestInRow s f t y n b .area)
+unfolding bestInRow
+row-stays s f t y zero b = better-self s (b .area)
+row-stays s f t y (suc n) b =
+    no-better-trans s (b .area) (bestInRow s f t y n b .area) (bestInRow s f t y (suc n) b .area) (row-stays s f t y n b)
+    (replaced-stays s (bestInRow s f t y n b) (spotAt f (n * t) y))
+
+-- only the areas at the starts count
+pub row-cong : (s : Sense) (f g : ℕ → ℕ → ℕ) (t y n : ℕ) (b : Spot) → ((i : ℕ) → i < n → f (i * t) y ≡ g (i * t) y) →
+    bestInRow s f t y n b ≡ bestInRow s g t y n b
+unfolding bestInRow
+row-cong s f g t y zero b h = refl
+row-cong s f g t y (suc n) b h =
+    ap₂ (λ (c : Spot) (a : ℕ). replaced s c (record { area = a; x = n * t; y = y })) (row-cong s f g t y n b (λ i k. h i (omega arith))) (h n (omega arith))
+
+-- ---- rows
+
+module _ (s : Sense) (f : ℕ → ℕ → ℕ) (t n m : ℕ) (b : Spot) where
+  pub rows-stay : NoBetter s (b .area) (bestInRows s f t n m b .area)
+  rows-stay = after-no-worse s f (Start t n m) b (bestInRows s f t n m b) (rows-best s f t n m b)
+
+  pub rows-see : (i j : ℕ) → i < n → j < m → NoBetter s (f (i * t) (j * t)) (bestInRows s f t n m b .area)
+  rows-see i j h k =
+      after-none-better s f (Start t n m) b (bestInRows s f t n m b) (rows-best s f t n m b) (i * t) (j * t)
+      (record { column = i; row = j; column-in = h; row-in = k; x-is = refl; y-is = refl })
+
+  -- what holds of the window before and of each start holds of what is found
+  pub rows-are : (P : Spot → Type 0) → P b → ((i j : ℕ) → i < n → j < m → P (spotAt f (i * t) (j * t))) → P (bestInRows s f t n m b)
+  rows-are P p q = go (bestInRows s f t n m b) (rows-best s f t n m b)
+    where
+      go : (r : Spot) → BestAfter s f (Start t n m) b r → P r
+      go r (inl h) = rw (h .0) p
+      go r (inr h) =
+          let at = h .0 .was-seen in
+          let area : r .area ≡ f (at .column * t) (at .row * t) = h .0 .area-is ∙ ap₂ f (at .x-is) (at .y-is) in
+          let is : r ≡ spotAt f (at .column * t) (at .row * t) = λ i. record { area = area i; x = at .x-is i; y = at .y-is i } in
+          subst P (sym is) (q (at .column) (at .row) (at .column-in) (at .row-in))
+
+-- where what stood before is no better than some start, its area does not count
+pub rows-forget : (s : Sense) (f : ℕ → ℕ → ℕ) (t n m : ℕ) (b c : Spot) →
+    NoBetter s (b .area) (bestInRows s f t n m c .area) → NoBetter s (c .area) (bestInRows s f t n m b .area) →
+    bestInRows s f t n m b .area ≡ bestInRows s f t n m c .area
+rows-forget s f t n m b c h k = better-neither s (bestInRows s f t n m b .area) (bestInRows s f t n m c .area) (one b c h) (one c b k)
+  where
+    one : (b c : Spot) → NoBetter s (b .area) (bestInRows s f t n m c .area) → NoBetter s (bestInRows s f t n m b .area) (bestInRows s f t n m c .area)
+    one b c h = rows-are s f t n m b (λ (a : Spot). NoBetter s (a .area) (bestInRows s f t n m c .area)) h (λ i j k l. rows-see s f t n m c i j k l)

@@ -1,0 +1,10 @@
+pub mod Folds
+pub mod Tiles
+pub mod Starts
+pub mod Bracket
+pub mod PassOver
+pub mod Numbers
+pub mod Passes
+pub mod Rows
+pub mod Zooming
+pub mod Cases

@@ -1,0 +1,148 @@
+-- Passing over is harmless: a start whose far window lies in a far window of the level before that was no better than the best window then
+-- adds nothing to F, to kept or to C; and the flags of a level say this for the next.
+use Prim.Native.Nat.{ℕ, zero, suc, _+_, _*_, _/_, _≤_, _<_}
+use mathlib.Core.Path.{_≡_, refl, sym, _∙_, subst}
+use mathlib.Core.Bool.{Bool, true, false}
+use mathlib.Core.Logic.{_⊎_, inl, inr}
+use mathlib.Core.List.{List}
+use native.Mathlib.Nat.{mul-le-mul-right, zero-mul}
+use native.Mathlib.Decide.{ℕ-discrete}
+use native.Mathlib.Omega.{arith}
+use lib.ListN.{length, getD, set, replicate, length-set, length-replicate, getD-replicate, List·getD-eq-default}
+use lib.Seq.{getD-set-same, getD-set-other}
+use Rattle.geometry.specs.declared.Rect.{Rect}
+use Rattle.geometry.specs.declared.Spot.{Spot}
+use Rattle.geometry.specs.declared.Sense.{Sense}
+use Rattle.geometry.specs.Count.{one-if}
+use Rattle.geometry.specs.Extreme.{better, spotAt, replaced, bestInRows}
+use Rattle.geometry.proofs.Counting.{le-or-lt}
+use Rattle.geometry.proofs.Extremes.{step-skip}
+use Rattle.extremes.specs.Exact.{windowArea}
+use Rattle.zoom.specs.Run.{startsOn, farArea, levelOf}
+use Rattle.zoom.specs.Passing.{NoBetter, flagOf, flagsInRow, flagsInRows, Harmless}
+use Rattle.zoom.proofs.Folds.{no-better-trans, rows-see, rows-forget}
+use Rattle.zoom.specs.Grid.{AtStart}
+use Rattle.zoom.proofs.Starts.{far-within, start-fits, half-start, window-within, far-halves}
+use Rattle.zoom.proofs.Bracket.{level-at-start}
+
+-- ---- what the flags of a level say
+
+flag-says : (s : Sense) (best far : ℕ) → flagOf s best far ≡ 1 → NoBetter s far best
+flag-says s best far h = go (better s far best) refl
+  where
+    go : (b : Bool) → better s far best ≡ b → better s far best ≡ false
+    go true e = absurd (omega (arith, rw e at h))
+    go false e = e
+
+-- a flag that reads 1 was written so
+set-says : (l : List ℕ) (p v : ℕ) → getD (set l p v) p 0 ≡ 1 → v ≡ 1
+set-says l p v h = go (le-or-lt (length l) p)
+  where
+    go : (length l ≤ p) ⊎ (p < length l) → v ≡ 1
+    go (inl k) = absurd (omega (arith, h, List·getD-eq-default {A = ℕ} (set l p v) 0 {n = p} (omega (arith, length-set l p v))))
+    go (inr k) = sym (getD-set-same l p v 0 k) ∙ h
+
+row-flags : (s : Sense) (best : ℕ) (far : ℕ → ℕ → ℕ) (t y at n : ℕ) (l : List ℕ) (i : ℕ) → i < n →
+    getD (flagsInRow s best far t y at n l) (at + i) 0 ≡ 1 → NoBetter s (far (i * t) y) best
+unfolding flagsInRow
+row-flags s best far t y at zero l i h e = absurd (omega arith)
+row-flags s best far t y at (suc n) l i h e = go (ℕ-discrete i n) (row-flags s best far t y at n l i)
+  where
+    rest : List ℕ
+    rest = flagsInRow s best far t y at n l
+
+    go : Dec (i ≡ n) → (i < n → getD rest (at + i) 0 ≡ 1 → NoBetter s (far (i * t) y) best) → NoBetter s (far (i * t) y) best
+    go (yes k) r = rw k (flag-says s best (far (n * t) y) (set-says rest (at + n) (flagOf s best (far (n * t) y)) (rw k at e)))
+    go (no k) r = r (omega arith) (sym (getD-set-other rest (at + n) (at + i) (flagOf s best (far (n * t) y)) 0 (omega arith)) ∙ e)
+
+-- flags before the row stay
+row-leaves : (s : Sense) (best : ℕ) (far : ℕ → ℕ → ℕ) (t y at n : ℕ) (l : List ℕ) (p : ℕ) → p < at → getD (flagsInRow s best far t y at n l) p 0 ≡ getD l p 0
+unfolding flagsInRow
+row-leaves s best far t y at zero l p h = refl
+row-leaves s best far t y at (suc n) l p h =
+    getD-set-other (flagsInRow s best far t y at n l) (at + n) p (flagOf s best (far (n * t) y)) 0 (omega arith) ∙ row-leaves s best far t y at n l p h
+
+rows-flag : (s : Sense) (best : ℕ) (far : ℕ → ℕ → ℕ) (t n m : ℕ) (l : List ℕ) (i j : ℕ) → i < n → j < m →
+    getD (flagsInRows s best far t n m l) (j * n + i) 0 ≡ 1 → NoBetter s (far (i * t) (j * t)) best
+unfolding flagsInRows
+rows-flag s best far t n zero l i j h k e = absurd (omega arith)
+rows-flag s best far t n (suc m) l i j h k e = go (ℕ-discrete j m) (rows-flag s best far t n m l i j h)
+  where
+    rest : List ℕ
+    rest = flagsInRows s best far t n m l
+
+    go : Dec (j ≡ m) → (j < m → getD rest (j * n + i) 0 ≡ 1 → NoBetter s (far (i * t) (j * t)) best) → NoBetter s (far (i * t) (j * t)) best
+    go (yes q) r = rw q (row-flags s best far t (m * t) (m * n) n rest i h (rw q at e))
+    go (no q) r =
+        r (omega arith)
+        (sym (row-leaves s best far t (m * t) (m * n) n rest (j * n + i) (omega (arith, mul-le-mul-right {m = suc j} {n = m} n (omega arith)))) ∙ e)
+
+-- ---- it is harmless to pass over what the flags say
+
+pub harmless-first : (s : Sense) (rs : List Rect) (n w t side size best : ℕ) → Harmless s rs n w t (replicate size 0) side best
+harmless-first s rs n w t side size best j k i h e = absurd (go (le-or-lt size (j / 2 * side + i / 2)))
+  where
+    go : (size ≤ j / 2 * side + i / 2) ⊎ (j / 2 * side + i / 2 < size) → ⊥
+    go (inl l) = omega (arith, e, List·getD-eq-default {A = ℕ} (replicate size 0) 0 {n = j / 2 * side + i / 2} (omega (arith, length-replicate {A = ℕ} size 0)))
+    go (inr l) = omega (arith, e, getD-replicate {A = ℕ} size (j / 2 * side + i / 2) 0 0 l)
+
+pub harmless-next : (s : Sense) (rs : List Rect) (n w t best : ℕ) (l : List ℕ) → 1 ≤ t →
+    Harmless s rs n w t
+    (flagsInRows s best (farArea s rs n w (2 * t)) (2 * t) (startsOn n w (2 * t)) (startsOn n w (2 * t)) l)
+    (startsOn n w (2 * t)) best
+harmless-next s rs n w t best l p j k i h e =
+    no-better-trans s (farArea s rs n w t (i * t) (j * t)) (farArea s rs n w (2 * t) (i / 2 * (2 * t)) (j / 2 * (2 * t))) best
+    (far-halves s rs n w t i j)
+    (rows-flag s best (farArea s rs n w (2 * t)) (2 * t) (startsOn n w (2 * t)) (startsOn n w (2 * t)) l (i / 2) (j / 2)
+    (half-start n w t i p h) (half-start n w t j p k) e)
+
+-- the standard window of a start lies in its far one
+pub standard-no-better : (s : Sense) (rs : List Rect) (n w t i j best : ℕ) → 1 ≤ t → w ≤ n → i < startsOn n w t → j < startsOn n w t →
+    NoBetter s (farArea s rs n w t (i * t) (j * t)) best → NoBetter s (windowArea rs w (i * t) (j * t)) best
+standard-no-better s rs n w t i j best p q h k b =
+    no-better-trans s (windowArea rs w (i * t) (j * t)) (farArea s rs n w t (i * t) (j * t)) best
+    (window-within s rs n w t (i * t) (j * t) (i * t) (j * t) (omega (arith, start-fits n w t i p h)) (omega (arith, start-fits n w t j p k))
+    (omega arith) (omega arith) (omega arith) (omega arith))
+    b
+
+-- a start whose tile lies in a tile of an earlier level has its far window in the far window there; if that one was no better than a window
+-- that stood, then the start changes neither F nor C, and is not kept
+pub record AddsNothing (s : Sense) (rs : List Rect) (n w t i j best : ℕ) : Type 0 where
+  pub floor : (b : Spot) → NoBetter s best (b .area) → replaced s b (spotAt (windowArea rs w) (i * t) (j * t)) ≡ b
+  pub ceiling : (b : Spot) → NoBetter s best (b .area) → replaced s b (spotAt (farArea s rs n w t) (i * t) (j * t)) ≡ b
+  pub kept : one-if (better s (farArea s rs n w t (i * t) (j * t)) best) ≡ 0
+
+pub passed-over : (s : Sense) (rs : List Rect) (n w t i j best t′ x′ y′ : ℕ) → 1 ≤ t → w ≤ n → i < startsOn n w t → j < startsOn n w t →
+    x′ ≤ i * t → i * t + t ≤ x′ + t′ → y′ ≤ j * t → j * t + t ≤ y′ + t′ → NoBetter s (farArea s rs n w t′ x′ y′) best → AddsNothing s rs n w t i j best
+passed-over s rs n w t i j best t′ x′ y′ p q h k hx kx hy ky b =
+    record {
+      floor = λ c m.
+          step-skip s c (spotAt (windowArea rs w) (i * t) (j * t)) (no-better-trans s _ best (c .area) (standard-no-better s rs n w t i j best p q h k worse) m);
+      ceiling = λ c m. step-skip s c (spotAt (farArea s rs n w t) (i * t) (j * t)) (no-better-trans s _ best (c .area) worse m);
+      kept = rw worse refl;
+    }
+  where
+    worse : NoBetter s (farArea s rs n w t (i * t) (j * t)) best
+    worse =
+        no-better-trans s (farArea s rs n w t (i * t) (j * t)) (farArea s rs n w t′ x′ y′) best
+        (far-within s rs n w t (i * t) (j * t) t′ x′ y′ hx kx hy ky) b
+
+-- C may be sought from F on: the best window lies in the far window of its own start
+pub bound-from-best : (s : Sense) (rs : List Rect) (n w t : ℕ) (b : Spot) → 1 ≤ t → w ≤ n → AtStart rs n w t b →
+    bestInRows s (farArea s rs n w t) t (startsOn n w t) (startsOn n w t) (levelOf s rs n w t b .window) .area ≡ levelOf s rs n w t b .bound
+unfolding levelOf
+bound-from-best s rs n w t b p q a =
+    rows-forget s far t k k (levelOf s rs n w t b .window) (spotAt far 0 0) (seen (level-at-start s rs n w t b a))
+    (rw (zero-mul t) at (rows-see s far t k k (levelOf s rs n w t b .window) 0 0 (omega arith) (omega arith)))
+  where
+    k : ℕ
+    k = startsOn n w t
+
+    far : ℕ → ℕ → ℕ
+    far = farArea s rs n w t
+
+    seen : {c : Spot} → AtStart rs n w t c → NoBetter s (c .area) (bestInRows s far t k k (spotAt far 0 0) .area)
+    seen {c} m =
+        subst (λ (d : Spot). NoBetter s (d .area) (bestInRows s far t k k (spotAt far 0 0) .area)) (sym (m .is))
+        (standard-no-better s rs n w t (m .column) (m .row) (bestInRows s far t k k (spotAt far 0 0) .area) p q (m .across) (m .down)
+        (rows-see s far t k k (spotAt far 0 0) (m .column) (m .row) (m .across) (m .down)))

@@ -1,0 +1,291 @@
+-- A level by its two passes, and the run level by level.
+use Prim.Native.Nat.{ℕ, zero, suc, _+_, _-_, _*_, _/_, _^_, _≤_, _<_}
+use mathlib.Core.Path.{_≡_, refl, sym, ap, ap₂, _∙_, subst}
+use mathlib.Core.Bool.{Bool, true, false}
+use mathlib.Core.List.{List, _++_, append-nil}
+use native.Mathlib.Nat.{zero-add, div-one, div-le-self}
+use native.Mathlib.Numerals.{add-one, add-two}
+use native.Mathlib.Omega.{arith}
+use borrow.Author.Tests.{leb-true, leb-false, le-leb, lt-leb}
+use lib.Dec.{leb}
+use lib.Count.{trailing-le}
+use lib.ListN.{length, take, drop, replicate, length-replicate}
+use lib.Seq.{take-length, drop-length}
+use Rattle.geometry.specs.declared.Rect.{Rect}
+use Rattle.geometry.specs.declared.Spot.{Spot}
+use Rattle.geometry.specs.declared.Sense.{Sense}
+use Rattle.geometry.specs.Layout.{coveredArea, window}
+use Rattle.geometry.specs.Extreme.{spotAt, replaced, bestInRows}
+use Rattle.extremes.specs.Exact.{windowArea, extreme}
+use Rattle.zoom.specs.declared.Level.{Level}
+use Rattle.zoom.specs.declared.End.the-variants.{Met, Stopped, Exact}
+use Rattle.zoom.specs.declared.Quick.{Quick}
+use Rattle.zoom.specs.declared.Ending.{Ending}
+use Rattle.zoom.specs.declared.Ending.the-variants.{Over, Open}
+use Rattle.zoom.specs.declared.Grid.{Grid}
+use Rattle.zoom.specs.declared.Far.{Far}
+use Rattle.zoom.specs.Run.{lastLevel, tileSide, startsOn, farArea, levelOf, isMet, exactLevel, runFrom, quickRun}
+use Rattle.zoom.specs.Passing.{NoBetter, Harmless, flagsInRows}
+use Rattle.zoom.specs.Grid.{Sized, AtStart, farInRows, endingOf}
+use Rattle.zoom.proofs.Folds.{no-better-trans, rows-stay}
+use Rattle.zoom.proofs.Tiles.{tile-next, tile-halves, tile-positive}
+use Rattle.zoom.proofs.Starts.{start-stays}
+use Rattle.zoom.proofs.Bracket.{first-start, level-at-start, LevelSmall, level-small}
+use Rattle.zoom.proofs.PassOver.{bound-from-best, harmless-first, harmless-next}
+use Rattle.zoom.proofs.Passes.{RowsSoFar, far-rows-bound, far-rows-kept}
+
+-- ---- a level by its two passes
+
+-- what is harmless against the window before is harmless against the level's best
+pub harmless-on : (s : Sense) (rs : List Rect) (g : Grid) (flags : List ℕ) (side : ℕ) (before best : Spot) →
+    best ≡ bestInRows s (windowArea rs (g .w)) (g .t) (g .starts) (g .starts) before → Harmless s rs (g .n) (g .w) (g .t) flags side (before .area) →
+    Harmless s rs (g .n) (g .w) (g .t) flags side (best .area)
+harmless-on s rs g flags side before best e p j k i h q =
+    no-better-trans s (farArea s rs (g .n) (g .w) (g .t) (i * g .t) (j * g .t)) (before .area) (best .area) (p j k i h q)
+    (subst (λ (b : Spot). NoBetter s (before .area) (b .area)) (sym e) (rows-stay s (windowArea rs (g .w)) (g .t) (g .starts) (g .starts) before))
+
+-- what a level answers and leaves in the table of flags
+pub record LevelDone (s : Sense) (rs : List Rect) (n w t : ℕ) (before : Spot) (this : Level) (new new′ : List ℕ) : Type 0 where
+  pub answer : this ≡ levelOf s rs n w t before
+  pub flags : new′ ≡ flagsInRows s (this .window .area) (farArea s rs n w t) t (startsOn n w t) (startsOn n w t) new
+
+pub level-done : (s : Sense) (rs : List Rect) (g : Grid) (before best : Spot) (far : Far) (new new′ : List ℕ) → Sized g → AtStart rs (g .n) (g .w) (g .t) before →
+    best ≡ bestInRows s (windowArea rs (g .w)) (g .t) (g .starts) (g .starts) before →
+    RowsSoFar s (best .area) (farArea s rs (g .n) (g .w) (g .t)) (g .t) (g .starts) (g .starts) (record { bound = best; kept = 0 }) far new new′ →
+    LevelDone s rs (g .n) (g .w) (g .t) before (record { window = best; bound = far .bound .area; kept = far .kept }) new new′
+unfolding levelOf
+level-done s rs g before best far new new′ z a e r =
+    record {
+      answer = λ i. record { window = window-is i; bound = bound-is i; kept = kept-is i };
+      flags = subst (λ (k : ℕ). new′ ≡ flagsInRows s (best .area) (farArea s rs (g .n) (g .w) (g .t)) (g .t) k k new) (z .count) (r .flags);
+    }
+  where
+    level : Level
+    level = levelOf s rs (g .n) (g .w) (g .t) before
+
+    window-is : best ≡ level .window
+    window-is = subst (λ (k : ℕ). best ≡ bestInRows s (windowArea rs (g .w)) (g .t) k k before) (z .count) e
+
+    counted : far ≡ farInRows s (level .window .area) (farArea s rs (g .n) (g .w) (g .t)) (g .t) (startsOn (g .n) (g .w) (g .t)) (startsOn (g .n) (g .w) (g .t))
+        (record { bound = level .window; kept = 0 })
+    counted =
+        r .search
+        ∙ ap₂ (λ (b : Spot) (k : ℕ). farInRows s (b .area) (farArea s rs (g .n) (g .w) (g .t)) (g .t) k k (record { bound = b; kept = 0 })) window-is (z .count)
+
+    bound-is : far .bound .area ≡ level .bound
+    bound-is =
+        ap (λ (b : Far). b .bound .area) counted
+        ∙ ap (λ (b : Spot). b .area) (far-rows-bound s (level .window .area) (farArea s rs (g .n) (g .w) (g .t)) (g .t) _ _ (record { bound = level .window; kept = 0 }))
+        ∙ bound-from-best s rs (g .n) (g .w) (g .t) before (z .tile) (z .inside) a
+
+    kept-is : far .kept ≡ level .kept
+    kept-is =
+        ap (λ (b : Far). b .kept) counted
+        ∙ far-rows-kept s (level .window .area) (farArea s rs (g .n) (g .w) (g .t)) (g .t) _ _ (record { bound = level .window; kept = 0 }) ∙ zero-add _
+
+-- ---- the run, level by level
+
+pub first-area : (rs : List Rect) (w area : ℕ) → area ≡ coveredArea rs (record { x1 = 0; y1 = 0; x2 = w; y2 = w }) →
+    _≡_ {A = Spot} (record { area = area; x = 0; y = 0 }) (spotAt (windowArea rs w) 0 0)
+first-area rs w area e =
+    ap (λ (a : ℕ). record { area = a; x = 0; y = 0 }) (e ∙ ap (λ (k : ℕ). coveredArea rs (record { x1 = 0; y1 = 0; x2 = k; y2 = k })) (sym (zero-add w)))
+
+-- the code's three tests
+abbrev endTests : (met late last : Bool) (first second third : Quick) → Ending
+endTests met late last first second third =
+    elim met [
+      | true ↦ Over first
+      | false ↦ elim late [ true ↦ Over second | false ↦ elim last [ true ↦ Over third | false ↦ Open ] ]
+    ]
+
+-- they are those of the definition, where the last level is the one with no level left
+over-by-tests : (met late last : Bool) (first second third next q : Quick) → (last ≡ true → next ≡ third) →
+    endTests met late last first second third ≡ Over q → elim met [ true ↦ first | false ↦ elim late [ true ↦ second | false ↦ next ] ] ≡ q
+over-by-tests true late last first second third next q h e = cc
+over-by-tests false true last first second third next q h e = cc
+over-by-tests false false true first second third next q h e = let g : next ≡ third = h refl in cc
+over-by-tests false false false first second third next q h e = cc
+
+record GoesOn (last : Bool) (answer next : Quick) : Type 0 where
+  more : last ≡ false
+  same : answer ≡ next
+
+open-by-tests : (met late last : Bool) (first second third next : Quick) → endTests met late last first second third ≡ Open →
+    GoesOn last (elim met [ true ↦ first | false ↦ elim late [ true ↦ second | false ↦ next ] ]) next
+open-by-tests true late last first second third next e = record { more = cc; same = cc }
+open-by-tests false true last first second third next e = record { more = cc; same = cc }
+open-by-tests false false true first second third next e = record { more = cc; same = refl }
+open-by-tests false false false first second third next e = record { more = refl; same = refl }
+
+run-over : (s : Sense) (rs : List Rect) (n w e v z left j : ℕ) (b : Spot) (q : Quick) → j + left ≡ z →
+    endingOf s e v z j (levelOf s rs n w (tileSide w j) b) (extreme s rs n w) ≡ Over q → runFrom s rs n w e v left j b ≡ q
+unfolding runFrom
+run-over s rs n w e v z zero j b q h k =
+    let this : Level = levelOf s rs n w (tileSide w j) b in
+    over-by-tests (isMet s e this) (leb v (suc j)) (leb z j) _ _ (record { end = Exact; levels = suc (suc j); last = exactLevel s (this .window) (extreme s rs n w) }) _ q
+    (λ _. refl) k
+run-over s rs n w e v z (suc left) j b q h k =
+    let this : Level = levelOf s rs n w (tileSide w j) b in
+    over-by-tests (isMet s e this) (leb v (suc j)) (leb z j) _ _ (record { end = Exact; levels = suc (suc j); last = exactLevel s (this .window) (extreme s rs n w) })
+    (runFrom s rs n w e v left (suc j) (this .window)) q
+    (λ l. absurd (omega (arith, leb-true z j l))) k
+
+record RunGoesOn (s : Sense) (rs : List Rect) (n w e v z left j : ℕ) (b : Spot) : Type 0 where
+  more : j < z
+  same : runFrom s rs n w e v left j b ≡ runFrom s rs n w e v (left - 1) (suc j) (levelOf s rs n w (tileSide w j) b .window)
+
+run-open : (s : Sense) (rs : List Rect) (n w e v z left j : ℕ) (b : Spot) → j + left ≡ z →
+    endingOf s e v z j (levelOf s rs n w (tileSide w j) b) (extreme s rs n w) ≡ Open → RunGoesOn s rs n w e v z left j b
+unfolding runFrom
+run-open s rs n w e v z zero j b h k =
+    let this : Level = levelOf s rs n w (tileSide w j) b in
+    let g = open-by-tests (isMet s e this) (leb v (suc j)) (leb z j) _ _ _ (record { end = Exact; levels = suc (suc j); last = exactLevel s (this .window) (extreme s rs n w) }) k in
+    absurd (omega (arith, leb-false z j (g .more)))
+run-open s rs n w e v z (suc left) j b h k =
+    let this : Level = levelOf s rs n w (tileSide w j) b in
+    let g = open-by-tests (isMet s e this) (leb v (suc j)) (leb z j) _ _ _ (runFrom s rs n w e v left (suc j) (this .window)) k in
+    let less : left ≡ suc left - 1 = omega arith in
+    record { more = omega (arith, leb-false z j (g .more)); same = g .same ∙ ap (λ (l : ℕ). runFrom s rs n w e v l (suc j) (this .window)) less }
+
+-- each answer of the code by the tests that led to it
+module _ (s : Sense) (e v z j : ℕ) (this : Level) (m : Spot) (met : Bool) (tested : met ≡ isMet s e this) where
+  by-tests : (a b c : Bool) → met ≡ a → leb v (suc j) ≡ b → leb z j ≡ c →
+      endTests a b c (record { end = Met; levels = suc j; last = this }) (record { end = Stopped; levels = suc j; last = this })
+      (record { end = Exact; levels = suc (suc j); last = exactLevel s (this .window) m })
+      ≡ endingOf s e v z j this m
+  by-tests a b c h k l = rw (sym h ∙ tested, sym k, sym l)
+
+  pub ends-met : met ≡ true → Over (record { end = Met; levels = j + 1; last = this }) ≡ endingOf s e v z j this m
+  ends-met h = ap (λ (k : ℕ). Over (record { end = Met; levels = k; last = this })) (add-one j) ∙ by-tests true (leb v (suc j)) (leb z j) h refl refl
+
+  pub ends-stopped : met ≡ false → v ≤ j + 1 → Over (record { end = Stopped; levels = j + 1; last = this }) ≡ endingOf s e v z j this m
+  ends-stopped h k =
+      ap (λ (k : ℕ). Over (record { end = Stopped; levels = k; last = this })) (add-one j)
+      ∙ by-tests false true (leb z j) h (le-leb v (suc j) (omega arith)) refl
+
+  pub ends-exact : (best : Spot) → met ≡ false → j + 1 < v → z ≤ j → best ≡ replaced s (this .window) m →
+      Over (record { end = Exact; levels = j + 2; last = record { window = best; bound = m .area; kept = 0 } }) ≡ endingOf s e v z j this m
+  ends-exact best h k l r =
+      ap₂ (λ (k : ℕ) (b : Spot). Over (record { end = Exact; levels = k; last = record { window = b; bound = m .area; kept = 0 } })) (add-two j) r
+      ∙ by-tests false false true h (lt-leb v (suc j) (omega arith)) (le-leb z j l)
+
+  pub ends-open : met ≡ false → j + 1 < v → j < z → Open ≡ endingOf s e v z j this m
+  ends-open h k l = by-tests false false false h (lt-leb v (suc j) (omega arith)) (lt-leb z j l)
+
+-- a table copied over another of its length
+copied : (from to out : List ℕ) → length from ≡ length to → out ≡ take (length from) from ++ drop (length from) to → out ≡ from
+copied from to out h e =
+    e ∙ ap₂ (λ (a b : List ℕ). a ++ b) (take-length from) (ap (λ (k : ℕ). drop k to) h ∙ drop-length to) ∙ append-nil from
+
+-- what holds before each level
+pub record RunSoFar (s : Sense) (rs : List Rect) (n w e v z : ℕ) (old new : List ℕ) (before : Spot) (side t j : ℕ) : Type 0 where
+  pub whole : runFrom s rs n w e v (z - j) j before ≡ quickRun s rs n w e v
+  pub last : z ≡ lastLevel w
+  pub level : j ≤ z
+  pub tile : t ≡ tileSide w j
+  pub start : AtStart rs n w t before
+  pub spare : Harmless s rs n w t old side (before .area)
+  pub few : side ≤ 1048577
+  pub old-size : length old ≡ 262144
+  pub new-size : length new ≡ 262144
+
+pub run-begins : (s : Sense) (rs : List Rect) (n w e v z : ℕ) (before : Spot) → z ≡ lastLevel w → before ≡ spotAt (windowArea rs w) 0 0 →
+    RunSoFar s rs n w e v z (replicate 262144 0) (replicate 262144 0) before 0 w 0
+unfolding quickRun
+run-begins s rs n w e v z before h k =
+    record {
+      whole = ap₂ (λ (l : ℕ) (b : Spot). runFrom s rs n w e v l 0 b) left k;
+      last = h;
+      level = omega arith;
+      tile = sym (div-one w);
+      start = subst (λ (b : Spot). AtStart rs n w w b) (sym k) (subst (λ (t : ℕ). AtStart rs n w t (spotAt (windowArea rs w) 0 0)) (div-one w) (first-start rs n w));
+      spare = harmless-first s rs n w w 0 262144 (before .area);
+      few = omega arith;
+      old-size = length-replicate {A = ℕ} 262144 0;
+      new-size = length-replicate {A = ℕ} 262144 0;
+    }
+  where
+    left : z - 0 ≡ lastLevel w
+    left = omega arith
+
+module _ (s : Sense) (rs : List Rect) (n w e v z : ℕ) (old new : List ℕ) (before : Spot) (side t j : ℕ) (so-far : RunSoFar s rs n w e v z old new before side t j) (p : 1 ≤ w) where
+  pub run-tile : (1 ≤ t) × (t ≤ w)
+  run-tile =
+      let deep : j ≤ lastLevel w = omega (arith, so-far .level, so-far .last) in
+      (omega (arith, so-far .tile, tile-positive w j p deep), omega (arith, so-far .tile, div-le-self w (2 ^ j)))
+
+  left-is : j + (z - j) ≡ z
+  left-is = omega (arith, so-far .level)
+
+  pub run-answers : (this : Level) (m : Spot) (ending : Ending) (q : Quick) → this ≡ levelOf s rs n w t before → m ≡ extreme s rs n w →
+      ending ≡ endingOf s e v z j this m → ending ≡ Over q → q ≡ quickRun s rs n w e v
+  run-answers this m ending q h k l o =
+      sym (run-over s rs n w e v z (z - j) j before q left-is
+      (subst (λ (u : ℕ). endingOf s e v z j (levelOf s rs n w u before) (extreme s rs n w) ≡ Over q) (so-far .tile)
+      (subst (λ (u : Spot). endingOf s e v z j (levelOf s rs n w t before) u ≡ Over q) k
+      (subst (λ (u : Level). endingOf s e v z j u m ≡ Over q) h (sym l ∙ o)))))
+      ∙ so-far .whole
+
+  pub run-goes-on : (this : Level) (m : Spot) (ending : Ending) (old′ new′ : List ℕ) (side′ : ℕ) → n ≤ 1048576 →
+      LevelDone s rs n w t before this new new′ → m ≡ extreme s rs n w → ending ≡ endingOf s e v z j this m → ending ≡ Open → length new′ ≡ length new →
+      old′ ≡ take (length new′) new′ ++ drop (length new′) old → side′ ≡ startsOn n w t →
+      RunSoFar s rs n w e v z old′ new′ (this .window) side′ (t / 2) (j + 1)
+  run-goes-on this m ending old′ new′ side′ small d k l o size copy counted =
+      record {
+        whole = whole;
+        last = so-far .last;
+        level = omega (arith, on .more);
+        tile = ap (λ (u : ℕ). u / 2) (so-far .tile) ∙ sym (tile-next w j) ∙ ap (λ (i : ℕ). tileSide w i) (sym (add-one j));
+        start = start-stays rs n w (t / 2) (this .window) positive (subst (λ (u : ℕ). AtStart rs n w u (this .window)) even stands);
+        spare = rw (counted, same) spare;
+        few = omega (arith, counted, div-le-self (n - w) t);
+        old-size = ap length same ∙ size ∙ so-far .new-size;
+        new-size = size ∙ so-far .new-size;
+      }
+    where
+      same : old′ ≡ new′
+      same = copied new′ old old′ (size ∙ so-far .new-size ∙ sym (so-far .old-size)) copy
+
+      level : Level
+      level = levelOf s rs n w (tileSide w j) before
+
+      is-level : this ≡ level
+      is-level = d .answer ∙ ap (λ (u : ℕ). levelOf s rs n w u before) (so-far .tile)
+
+      on : RunGoesOn s rs n w e v z (z - j) j before
+      on =
+          run-open s rs n w e v z (z - j) j before left-is
+          (subst (λ (u : Spot). endingOf s e v z j level u ≡ Open) k (subst (λ (u : Level). endingOf s e v z j u m ≡ Open) is-level (sym l ∙ o)))
+
+      whole : runFrom s rs n w e v (z - (j + 1)) (j + 1) (this .window) ≡ quickRun s rs n w e v
+      whole =
+          ap₂ (λ (l i : ℕ). runFrom s rs n w e v l i (this .window)) less (add-one j)
+          ∙ ap (λ (u : Level). runFrom s rs n w e v (z - j - 1) (suc j) (u .window)) is-level ∙ sym (on .same) ∙ so-far .whole
+        where
+          less : z - (j + 1) ≡ z - j - 1
+          less = omega arith
+
+      even : t ≡ 2 * (t / 2)
+      even =
+          let deeper : j < lastLevel w = omega (arith, on .more, so-far .last) in
+          omega (arith, so-far .tile, tile-halves w j deeper, tile-next w j)
+
+      positive : 1 ≤ t / 2
+      positive = omega (arith, even, run-tile .0)
+
+      stands : AtStart rs n w t (this .window)
+      stands = subst (λ (u : Level). AtStart rs n w t (u .window)) (sym (d .answer)) (level-at-start s rs n w t before (so-far .start))
+
+      spare : Harmless s rs n w (t / 2) new′ (startsOn n w t) (this .window .area)
+      spare =
+          subst (λ (l : List ℕ). Harmless s rs n w (t / 2) l (startsOn n w t) (this .window .area)) (sym (d .flags))
+          (subst
+          (λ (u : ℕ). Harmless s rs n w (t / 2) (flagsInRows s (this .window .area) (farArea s rs n w u) u (startsOn n w u) (startsOn n w u) new) (startsOn n w u) (this .window .area))
+          (sym even) (harmless-next s rs n w (t / 2) (this .window .area) new positive))
+
+  -- the numbers of a level fit the tests after it
+  pub run-small : (this : Level) → w ≤ n → n ≤ 1048576 → this ≡ levelOf s rs n w t before → LevelSmall this
+  run-small this q small h = subst LevelSmall (sym h) (level-small s rs n w t before small q (run-tile .0) (so-far .start))
+
+  pub run-deep : j ≤ 4
+  run-deep = omega (arith, so-far .level, so-far .last, trailing-le 4 w)

@@ -1,0 +1,33 @@
+-- `zoom::bounds::weigh` meets its contract. Assumes nothing.
+use mathlib.Core.Path.{sym, _∙_}
+use borrow.Author.Needs.{needs}
+use Rattle.zoom.proofs.Passes.{weighs-more, weighs-nothing}
+use Rattle.zoom.proofs.bounds.weigh.Statement.{statement}
+use Rattle.zoom.proofs.bounds.weigh.Tie as tie
+
+returns : tie.Need-returns
+returns c =
+    let at-test = c .before .before .before .before .before .before .before in
+    let start = at-test .before .before in
+    let a = start .args in
+    let w =
+    weighs-more (a .sense) (a .best) (a .far) (a .at) (a .before) (a .new .now) _ (c .before .better-of .result)
+    (sym (at-test .is-better .ensures) ∙ c .before .before .before .before .before .before .if1 .taken) (c .before .better-of .ensures)
+    (c .before .before .before .before .put-flag .ensures) in
+    (w .search, w .flags)
+
+returns-2 : tie.Need-returns-2
+returns-2 c =
+    let at-test = c .before .before .before .before .before in
+    let start = at-test .before .before in
+    let a = start .args in
+    let w =
+    weighs-nothing (a .sense) (a .best) (a .far) (a .at) (a .before) (a .new .now) _
+    (sym (at-test .is-better .ensures) ∙ c .before .before .before .before .if1 .left) (start .pre .1) (c .before .before .put-flag2 .ensures) in
+    (w .search, w .flags)
+
+pub weigh-spec : {M : Type 1} → statement M
+weigh-spec =
+    tie.close
+    (tie.spec (λ c κs. search needs) (λ c κs. search needs) (λ c κs. search needs) (λ c. search needs) (λ c. search needs) returns (λ c κs. search needs)
+    (λ c. search needs) returns-2)

@@ -1,0 +1,24 @@
+-- `zoom::levels::is_met` meets its contract. Assumes nothing.
+use native.Mathlib.Omega.{arith}
+use borrow.Author.Needs.{needs}
+use Rattle.zoom.proofs.Numbers.{ends-small, scaled-small}
+use Rattle.zoom.proofs.levels.is_met.Statement.{statement}
+use Rattle.zoom.proofs.levels.is_met.Tie as tie
+
+mul-result : tie.Need-mul-result
+mul-result c =
+    let start = c .before in
+    omega (arith, c .high-end .ensures, ends-small (start .args .sense) (start .args .level) (start .pre .1) (start .pre .2) .high)
+
+mul-result-3 : tie.Need-mul-result-3
+mul-result-3 c =
+    let start = c .before .before in
+    rw (c .low-end .ensures) (record { fits = omega (arith, scaled-small (start .args .e) _ (start .pre .0) (ends-small (start .args .sense) (start .args .level) (start .pre .1) (start .pre .2) .low)) })
+
+returns : tie.Need-returns
+returns c = rw (c .low-end .ensures, c .before .high-end .ensures)
+
+pub is-met-spec : {M : Type 1} → statement M
+is-met-spec =
+    tie.close
+    (tie.spec (λ c κs. search needs) mul-result (λ c. search needs) (λ c. search needs) (λ c κs. search needs) mul-result-3 returns)

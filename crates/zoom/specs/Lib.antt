@@ -1,0 +1,4 @@
+pub mod Run
+pub mod Passing
+pub mod Grid
+pub mod Cases

@@ -1,0 +1,110 @@
+-- Document 01, "The quick run". Floor F, ceiling C, kept, level and end are its terms. Nothing is passed over here.
+-- A level is stated over the sense of the extreme: of the greatest window F is `window .area` and C is `bound`. The least sense serves
+-- request 1 of document 02.
+use Prim.Native.Nat.{ℕ, zero, suc, _+_, _-_, _*_, _/_, _^_, min}
+use mathlib.Core.Bool.{Bool, true, false}
+use mathlib.Core.List.{List}
+use lib.Dec.{leb}
+use lib.Count.{trailingZeros}
+use Rattle.geometry.specs.declared.Rect.{Rect}
+use Rattle.geometry.specs.declared.Spot.{Spot}
+use Rattle.geometry.specs.declared.Sense.{Sense}
+use Rattle.geometry.specs.declared.Sense.the-variants.{Greatest, Least}
+use Rattle.geometry.specs.Count.{sum, one-if}
+use Rattle.geometry.specs.Layout.{coveredArea}
+use Rattle.geometry.specs.Extreme.{better, spotAt, replaced, bestInRows}
+use Rattle.extremes.specs.Exact.{windowArea, extreme}
+use Rattle.zoom.specs.declared.End.{End}
+use Rattle.zoom.specs.declared.End.the-variants.{Met, Stopped, Exact}
+use Rattle.zoom.specs.declared.Level.{Level}
+use Rattle.zoom.specs.declared.Quick.{Quick}
+
+-- z, the last level: the smaller of 4 and the number of trailing zero bits of w, which is their number among its four lowest bits
+abbrev pub lastLevel : ℕ → ℕ
+lastLevel w = trailingZeros 4 w
+
+-- the tile side at level j
+abbrev pub tileSide : ℕ → ℕ → ℕ
+tileSide w j = w / 2 ^ j
+
+-- the number of starts on an axis: the multiples of t up to n − w
+abbrev pub startsOn : (n w t : ℕ) → ℕ
+startsOn n w t = suc ((n - w) / t)
+
+-- the bloated window at (x, y): on each axis from the start to the smaller of the start + w + t and n
+abbrev pub bloated : (n w t x y : ℕ) → Rect
+bloated n w t x y = record { x1 = x; y1 = y; x2 = min (x + w + t) n; y2 = min (y + w + t) n }
+
+-- the shrunk window at (x, y): on each axis from the start + t to the start + w
+abbrev pub shrunk : (w t x y : ℕ) → Rect
+shrunk w t x y = record { x1 = x + t; y1 = y + t; x2 = x + w; y2 = y + w }
+
+-- what brackets the standard window on the far side: the bloated window for the greatest, the shrunk one for the least
+abbrev pub farArea : Sense → List Rect → (n w t x y : ℕ) → ℕ
+farArea Greatest rs n w t x y = coveredArea rs (bloated n w t x y)
+farArea Least rs n w t x y = coveredArea rs (shrunk w t x y)
+
+-- the level of tile side t, where `before` is the window named by the levels before it:
+-- F with its window, replaced only by a strictly larger area; C, the largest bloated area; kept, the starts whose bloated area exceeds F.
+-- In a run `before` is always a window at a start of this level, so F is the largest standard area of the level: `first-start`,
+-- `level-at-start` and `next-start` in proofs/Bracket.antt.
+unfoldable pub levelOf : Sense → List Rect → (n w t : ℕ) → Spot → Level
+levelOf s rs n w t before =
+    let k = startsOn n w t in
+    let far = farArea s rs n w t in
+    let best = bestInRows s (windowArea rs w) t k k before in
+    record {
+      window = best;
+      bound = bestInRows s far t k k (spotAt far 0 0) .area;
+      kept = sum k (λ j. sum k (λ i. one-if (better s (far (i * t) (j * t)) (best .area))));
+    }
+
+-- the lower and the upper end of a level's bracket
+abbrev pub lowEnd : Sense → Level → ℕ
+lowEnd Greatest v = v .window .area
+lowEnd Least v = v .bound
+
+abbrev pub highEnd : Sense → Level → ℕ
+highEnd Greatest v = v .bound
+highEnd Least v = v .window .area
+
+-- a level is met for accuracy e, in thousandths: 1000 × C ≤ (1000 + 2e) × F
+abbrev pub isMet : Sense → ℕ → Level → Bool
+isMet s e v = leb (1000 * highEnd s v) ((1000 + 2 * e) * lowEnd s v)
+
+-- an end in numbers
+abbrev pub endNumber : End → ℕ
+endNumber Met = 0
+endNumber Stopped = 1
+endNumber Exact = 2
+
+-- the exact search as one more level: C = M, the window replaced only if M is better, kept 0; no window passes M, so F = M too
+abbrev pub exactLevel : Sense → Spot → Spot → Level
+exactLevel s before m = record { window = replaced s before m; bound = m .area; kept = 0 }
+
+-- the answer after level j: met; else stopped, if the v levels allowed are done; else what the next level answers
+abbrev pub afterLevel : Sense → (e v j : ℕ) → Level → Quick → Quick
+afterLevel s e v j this next =
+    elim (isMet s e this) [
+      | true ↦ record { end = Met; levels = suc j; last = this }
+      | false ↦ elim (leb v (suc j)) [ true ↦ record { end = Stopped; levels = suc j; last = this } | false ↦ next ]
+    ]
+
+-- the run from level j on, with `left` levels after it before the exact search
+unfoldable pub runFrom : Sense → List Rect → (n w e v left j : ℕ) → Spot → Quick
+runFrom s rs n w e v zero j before =
+    let this = levelOf s rs n w (tileSide w j) before in
+    let next : Quick = record { end = Exact; levels = suc (suc j); last = exactLevel s (this .window) (extreme s rs n w) } in
+    afterLevel s e v j this next
+runFrom s rs n w e v (suc left) j before =
+    let this = levelOf s rs n w (tileSide w j) before in
+    let next = runFrom s rs n w e v left (suc j) (this .window) in
+    afterLevel s e v j this next
+
+-- the quick run for an extreme
+unfoldable pub quickRun : Sense → List Rect → (n w e v : ℕ) → Quick
+quickRun s rs n w e v = runFrom s rs n w e v (lastLevel w) 0 (spotAt (windowArea rs w) 0 0)
+
+-- density in ten-thousandths: 10000 × (F + C) / (2 × w × w), rounded down
+abbrev pub density : (w f c : ℕ) → ℕ
+density w f c = 10000 * (f + c) / (2 * w * w)

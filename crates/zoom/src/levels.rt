@@ -1,0 +1,173 @@
+// Levels, one after the other.
+ghost use Prim.Native.Nat.{_+_, _*_, _≤_};
+ghost use mathlib.Core.Path.{_≡_};
+ghost use Rattle.geometry.specs.Extreme.{spotAt};
+ghost use Rattle.geometry.specs.Layout.{rectsOf, Drawn};
+ghost use Rattle.extremes.specs.Exact.{windowArea, extreme};
+ghost use Rattle.zoom.specs.Run.{lastLevel, startsOn, farArea, levelOf, lowEnd, highEnd, isMet, quickRun};
+ghost use Rattle.zoom.specs.Passing.{Harmless, flagsInRows};
+ghost use Rattle.zoom.specs.Grid.{AtStart, endingOf};
+use crate::End;
+use crate::Ending;
+use crate::Grid;
+use crate::Level;
+use crate::Quick;
+use crate::bounds;
+use crate::standard;
+use geometry::Rect;
+use geometry::Sense;
+use geometry::Spot;
+
+// How often the window side can be halved, at most 4 times.
+fn last_level(w: u64) -> u64
+    ensures { λ r. ⌜ r ≡ lastLevel w ⌝ }
+{
+    let zeros = u64::trailing_zeros(w) as u64;
+    if zeros < 4 { zeros } else { 4 }
+}
+
+// The number of starts on an axis.
+fn starts_on(n: u64, w: u64, t: u64) -> u64
+    requires { ⌜ (w ≤ n) × (n ≤ 1048576) × (1 ≤ t) ⌝ }
+    ensures { λ r. ⌜ r ≡ startsOn n w t ⌝ }
+{
+    (n - w) / t + 1
+}
+
+// The window at the origin, which stands before the first level.
+fn first_window(rects: &[u64], w: u64) -> Spot
+    requires { ⌜ Drawn (now rects) ⌝ }
+    ensures { λ r. ⌜ r ≡ spotAt (windowArea (rectsOf (now (rects .entry))) w) 0 0 ⌝ }
+{
+    let area = geometry::area(
+        rects,
+        Rect {
+            x1: 0,
+            y1: 0,
+            x2: w,
+            y2: w,
+        },
+    );
+    Spot { area, x: 0, y: 0 }
+}
+
+// One level, in two passes: F must be known before a start is kept or flagged.
+fn level(
+    sense: Sense,
+    rects: &[u64],
+    flags: &[u8],
+    side: u64,
+    new: &mut [u8],
+    n: u64,
+    w: u64,
+    t: u64,
+    before: Spot,
+) -> Level
+    requires { ⌜ Drawn (now rects) ⌝ }
+    requires { ⌜ (n ≤ 1048576) × (w ≤ n) × (1 ≤ t) × (t ≤ w) × (side ≤ 1048577) ⌝ }
+    requires { ⌜ Harmless sense (rectsOf (now rects)) n w t (now flags) side (before .area) ⌝ }
+    requires { ⌜ AtStart (rectsOf (now rects)) n w t before ⌝ }
+    ensures { λ r. ⌜ r ≡ levelOf sense (rectsOf (now (rects .entry))) n w t before ⌝ }
+    ensures { λ r. ⌜ now (new .exit) ≡ flagsInRows sense (r .window .area) (farArea sense (rectsOf (now (rects .entry))) n w t) t (startsOn n w t) (startsOn n w t) (now (new .entry)) ⌝ }
+{
+    let starts = starts_on(n, w, t);
+    let g = Grid { n, w, t, starts };
+    let best = standard::rows(sense, rects, flags, side, g, before);
+    let far = bounds::rows(sense, rects, flags, side, new, g, best);
+    let bound = far.bound;
+    Level {
+        window: best,
+        bound: bound.area,
+        kept: far.kept,
+    }
+}
+
+fn low_end(sense: Sense, level: Level) -> u64
+    ensures { λ r. ⌜ r ≡ lowEnd sense level ⌝ }
+{
+    match sense {
+        Sense::Greatest => level.window.area,
+        Sense::Least => level.bound,
+    }
+}
+
+fn high_end(sense: Sense, level: Level) -> u64
+    ensures { λ r. ⌜ r ≡ highEnd sense level ⌝ }
+{
+    match sense {
+        Sense::Greatest => level.bound,
+        Sense::Least => level.window.area,
+    }
+}
+
+fn is_met(sense: Sense, e: u64, level: Level) -> bool
+    requires { ⌜ (e ≤ 1000) × (level .window .area ≤ 1099511627776) × (level .bound ≤ 1099511627776) ⌝ }
+    ensures { λ r. ⌜ r ≡ isMet sense e level ⌝ }
+{
+    1000 * high_end(sense, level) <= (1000 + 2 * e) * low_end(sense, level)
+}
+
+// What follows level j: an answer, or the next level.
+fn ending(sense: Sense, e: u64, v: u64, z: u64, j: u64, this: Level, m: Spot) -> Ending
+    requires { ⌜ (e ≤ 1000) × (this .window .area ≤ 1099511627776) × (this .bound ≤ 1099511627776) ⌝ }
+    requires { ⌜ j ≤ 4 ⌝ }
+    ensures { λ r. ⌜ r ≡ endingOf sense e v z j this m ⌝ }
+{
+    if is_met(sense, e, this) {
+        return Ending::Over(Quick {
+            end: End::Met,
+            levels: j + 1,
+            last: this,
+        });
+    }
+    if v <= j + 1 {
+        return Ending::Over(Quick {
+            end: End::Stopped,
+            levels: j + 1,
+            last: this,
+        });
+    }
+    if z <= j {
+        let window = geometry::better_of(sense, this.window, m);
+        let last = Level {
+            window,
+            bound: m.area,
+            kept: 0,
+        };
+        return Ending::Over(Quick {
+            end: End::Exact,
+            levels: j + 2,
+            last,
+        });
+    }
+    Ending::Open
+}
+
+// The run for either extreme. `old` has the flags of the level before, none at
+// first, and `new` gets those of this one.
+pub(crate) fn run(sense: Sense, rects: &[u64], n: u64, w: u64, e: u64, v: u64, m: Spot) -> Quick
+    requires { ⌜ Drawn (now rects) ⌝ }
+    requires { ⌜ (1 ≤ w) × (w ≤ n) × (n ≤ 1048576) × (e ≤ 1000) ⌝ }
+    requires { ⌜ m ≡ extreme sense (rectsOf (now rects)) n w ⌝ }
+    ensures { λ r. ⌜ r ≡ quickRun sense (rectsOf (now (rects .entry))) n w e v ⌝ }
+{
+    let z = last_level(w);
+    let mut old = [0u8; 262144];
+    let mut new = [0u8; 262144];
+    let mut before = first_window(rects, w);
+    let mut side: u64 = 0;
+    let mut t = w;
+    let mut j: u64 = 0;
+    loop {
+        let this = level(sense, rects, &old, side, &mut new, n, w, t, before);
+        let next = ending(sense, e, v, z, j, this, m);
+        if let Ending::Over(answer) = next {
+            return answer;
+        }
+        bytes::copy(&new, &mut old);
+        before = this.window;
+        side = starts_on(n, w, t);
+        t = t / 2;
+        j += 1;
+    }
+}
