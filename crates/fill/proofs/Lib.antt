@@ -1,0 +1,9 @@
+pub mod Grown
+pub mod Cutting
+pub mod Tiles
+pub mod Starts
+pub mod Promise
+pub mod Placing
+pub mod Windows
+pub mod Loads
+pub mod Cases

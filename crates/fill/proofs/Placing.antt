@@ -1,0 +1,92 @@
+-- Every table of amounts that fit their tiles has a placement: in each tile the first P eligible squares, row by row.
+use Prim.Native.Nat.{ℕ, zero, suc, _+_, _-_, _*_, _/_, _%_, _≤_, _<_, min}
+use mathlib.Core.Path.{_≡_, refl, sym, ap, ap₂, _∙_}
+use mathlib.Core.Bool.{Bool, true, false, _&&_}
+use mathlib.Core.List.{List}
+use mathlib.Core.Logic.{_⊎_, inl, inr}
+use native.Mathlib.Nat.{suc-mul, min-eq-left}
+use native.Mathlib.Omega.{arith}
+use lib.Arith.{digits-div, digits-mod}
+use lib.Dec.{T, ltb}
+use borrow.Author.Tests.{lt-ltb, le-ltb}
+use Rattle.geometry.specs.declared.Rect.{Rect}
+use Rattle.geometry.specs.Count.{sum, boxSum, one-if}
+use Rattle.geometry.proofs.Counting.{le-or-lt, sum-cong}
+use Rattle.fill.specs.Eligible.{eligible, tile, fillableArea}
+use Rattle.fill.specs.Judge.{amountAt}
+use Rattle.fill.specs.Placement.{Placement, chosenArea}
+
+-- of the numbers that e names, those before which fewer than p have been counted, c of them earlier
+row-taken : (n c p : ℕ) (e : ℕ → Bool) →
+    sum n (λ i. one-if (e i && ltb (c + sum i (λ v. one-if (e v))) p)) + min p c ≡ min p (c + sum n (λ v. one-if (e v)))
+unfolding sum
+row-taken zero c p e = omega arith
+row-taken (suc n) c p e = go (row-taken n c p e) (e n) refl (le-or-lt p (c + sum n (λ v. one-if (e v))))
+  where
+    before : ℕ
+    before = sum n (λ v. one-if (e v))
+
+    go : sum n (λ i. one-if (e i && ltb (c + sum i (λ v. one-if (e v))) p)) + min p c ≡ min p (c + before) → (t : Bool) → e n ≡ t → (p ≤ c + before) ⊎ (c + before < p) →
+        sum n (λ i. one-if (e i && ltb (c + sum i (λ v. one-if (e v))) p)) + one-if (e n && ltb (c + before) p) + min p c ≡ min p (c + (before + one-if (e n)))
+    go ih true q (inl l) = rw (q, le-ltb (c + before) p l) (omega arith)
+    go ih true q (inr l) = rw (q, lt-ltb (c + before) p l) (omega arith)
+    go ih false q l = rw q (omega arith)
+
+-- how many of a square of side d come before column m of row k
+abbrev rank : (d : ℕ) (e : ℕ → ℕ → Bool) (m k : ℕ) → ℕ
+rank d e m k = sum k (λ j. sum d (λ i. one-if (e i j))) + sum m (λ i. one-if (e i k))
+
+rows-taken : (h d p : ℕ) (e : ℕ → ℕ → Bool) →
+    sum h (λ k. sum d (λ m. one-if (e m k && ltb (rank d e m k) p))) ≡ min p (sum h (λ j. sum d (λ i. one-if (e i j))))
+unfolding sum
+rows-taken zero d p e = omega arith
+rows-taken (suc h) d p e = omega (arith, rows-taken h d p e, row-taken d (sum h (λ j. sum d (λ i. one-if (e i j)))) p (λ m. e m h))
+
+-- a tile's squares by their places in the tile
+tile-sum : (d i j : ℕ) (f : ℕ → ℕ → ℕ) → boxSum (tile d i j) f ≡ sum d (λ k. sum d (λ m. f (i * d + m) (j * d + k)))
+tile-sum d i j f = ap₂ (λ (a b : ℕ). sum a (λ k. sum b (λ m. f (i * d + m) (j * d + k)))) (side j) (side i)
+  where
+    side : (v : ℕ) → suc v * d - v * d ≡ d
+    side v = omega (arith, suc-mul v d)
+
+-- the first squares of each tile, row by row, as many as its amount
+abbrev firsts : (ℕ → ℕ → Bool) → List ℕ → (n d : ℕ) → ℕ → ℕ → Bool
+firsts e amounts n d x y =
+    e x y && ltb (rank d (λ m k. e (x / d * d + m) (y / d * d + k)) (x % d) (y % d)) (amountAt amounts n (x / d) (y / d))
+
+both : (a b : Bool) → T (a && b) → T a × T b
+both true true h = (tt, tt)
+
+module _ (g : ℕ) (rs : List Rect) (amounts : List ℕ) (n d : ℕ)
+    (fit : (i j : ℕ) → i < n → j < n → amountAt amounts n i j ≤ fillableArea g rs (tile d i j)) where
+  chosen : ℕ → ℕ → Bool
+  chosen = firsts (eligible g rs) amounts n d
+
+  exactly : (i j : ℕ) → i < n → j < n → chosenArea chosen (tile d i j) ≡ amountAt amounts n i j
+  unfolding chosen
+  exactly i j hi hj =
+      tile-sum d i j (λ x y. one-if (chosen x y))
+      ∙ sum-cong d (λ k. sum d (λ m. one-if (chosen (i * d + m) (j * d + k)))) (λ k. sum d (λ m. one-if (e m k && ltb (rank d e m k) p)))
+      (λ k hk. sum-cong d (λ m. one-if (chosen (i * d + m) (j * d + k))) (λ m. one-if (e m k && ltb (rank d e m k) p)) (λ m hm. local m k hm hk))
+      ∙ rows-taken d d p e
+      ∙ ap (λ (s : ℕ). min p s) (sym (tile-sum d i j (λ x y. one-if (eligible g rs x y))))
+      ∙ min-eq-left (fit i j hi hj)
+    where
+      e : ℕ → ℕ → Bool
+      e m k = eligible g rs (i * d + m) (j * d + k)
+
+      p : ℕ
+      p = amountAt amounts n i j
+
+      local : (m k : ℕ) → m < d → k < d → one-if (chosen (i * d + m) (j * d + k)) ≡ one-if (e m k && ltb (rank d e m k) p)
+      local m k hm hk = simp (digits-div i hm, digits-div j hk, digits-mod i hm, digits-mod j hk)
+
+  pub placement : (chosen : ℕ → ℕ → Bool) × Placement g rs amounts n d chosen
+  unfolding chosen
+  placement = (
+    chosen,
+    record {
+      allowed = λ x y h. both (eligible g rs x y) _ h .0;
+      exact = exactly;
+    },
+  )

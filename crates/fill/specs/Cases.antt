@@ -1,0 +1,22 @@
+-- Document 01, "Proved cases", rows A5 to A8: fillable areas and verdicts. proofs/Cases.antt shows that they follow.
+use Prim.Native.Nat.{ℕ}
+use mathlib.Core.List.{List, [], _∷_}
+use Rattle.geometry.specs.Cases.{Row, row, shapesA}
+use Rattle.fill.specs.Eligible.{fillableArea, tile}
+use Rattle.fill.specs.Judge.{verdictOf, verdictNumbers}
+
+-- job A has four tiles a side, of side 2, and two units of fill in tile (0, 0)
+abbrev pub amountsA : List ℕ
+amountsA = 2 ∷ 0 ∷ 0 ∷ 0 ∷ 0 ∷ 0 ∷ 0 ∷ 0 ∷ 0 ∷ 0 ∷ 0 ∷ 0 ∷ 0 ∷ 0 ∷ 0 ∷ 0 ∷ []
+
+-- the verdict on job A under the upper bound u
+abbrev pub verdictA : ℕ → List ℕ
+verdictA u = verdictNumbers (verdictOf shapesA amountsA 4 2 2 0 u 4)
+
+abbrev pub fillRows : List Row
+fillRows =
+    row "A5" (fillableArea 1 shapesA (tile 2 0 0) ∷ fillableArea 1 shapesA (tile 2 1 1) ∷ []) (4 ∷ 0 ∷ [])
+    ∷ row "A6" (verdictA 5000) (0 ∷ [])
+    ∷ row "A7" (verdictA 2500) (2 ∷ 0 ∷ 0 ∷ 0 ∷ [])
+    ∷ row "A8" (verdictA 2000) (1 ∷ 0 ∷ 1 ∷ 1 ∷ [])
+    ∷ []

@@ -1,0 +1,60 @@
+-- What the code counts in place of eligible squares, and the boxes that it cuts. A buyer need not read it: proofs/Grown.antt shows that the
+-- squares outside the grown rectangles are the eligible ones.
+use Prim.Native.Nat.{ℕ, _+_, _-_, _≤_, min, max}
+use mathlib.Core.Bool.{Bool, not, _||_}
+use mathlib.Core.List.{List, [], _∷_}
+use lib.Dec.{leb}
+use lib.ListN.{drop}
+use Rattle.geometry.specs.declared.Rect.{Rect}
+use Rattle.geometry.specs.Count.{one-if, boxSum}
+use Rattle.geometry.specs.Layout.{covered, rectsOf}
+
+-- a rectangle grown by the gap g on all sides, cut off at 0
+abbrev pub grown : ℕ → Rect → Rect
+grown g r = record { x1 = r .x1 - g; y1 = r .y1 - g; x2 = r .x2 + g; y2 = r .y2 + g }
+
+unfoldable pub grownAll : ℕ → List Rect → List Rect
+grownAll g [] = []
+grownAll g (r ∷ rs) = grown g r ∷ grownAll g rs
+
+-- the squares of a box that no rectangle covers
+abbrev pub freeArea : List Rect → Rect → ℕ
+freeArea rs b = boxSum b (λ x y. one-if (not (covered rs x y)))
+
+-- the squares of a box that none of the rectangles from place i of a table holds, each grown by g
+abbrev pub freeFrom : (g : ℕ) (table : List ℕ) (i : ℕ) → Rect → ℕ
+freeFrom g table i b = freeArea (grownAll g (rectsOf (drop i table))) b
+
+abbrev pub isEmpty : Rect → Bool
+isEmpty b = leb (b .x2) (b .x1) || leb (b .y2) (b .y1)
+
+-- what two boxes have in common
+abbrev pub meeting : (r b : Rect) → Rect
+meeting r b = record { x1 = max (r .x1) (b .x1); y1 = max (r .y1) (b .y1); x2 = min (r .x2) (b .x2); y2 = min (r .y2) (b .y2) }
+
+-- the four boxes around m, which lies in the box b
+abbrev pub below : (b m : Rect) → Rect
+below b m = record { x1 = b .x1; y1 = b .y1; x2 = b .x2; y2 = m .y1 }
+
+abbrev pub leftOf : (b m : Rect) → Rect
+leftOf b m = record { x1 = b .x1; y1 = m .y1; x2 = m .x1; y2 = m .y2 }
+
+abbrev pub rightOf : (b m : Rect) → Rect
+rightOf b m = record { x1 = m .x2; y1 = m .y1; x2 = b .x2; y2 = m .y2 }
+
+abbrev pub above : (b m : Rect) → Rect
+above b m = record { x1 = b .x1; y1 = m .y2; x2 = b .x2; y2 = b .y2 }
+
+-- the free squares around m, by the rectangles from place i on
+abbrev pub aroundFrom : (g : ℕ) (table : List ℕ) (i : ℕ) → (b m : Rect) → ℕ
+aroundFrom g table i b m =
+    freeFrom g table i (below b m) + freeFrom g table i (leftOf b m) + freeFrom g table i (rightOf b m) + freeFrom g table i (above b m)
+
+-- the box m lies in the box b
+pub record Within (m b : Rect) : Type 0 where
+  pub left : b .x1 ≤ m .x1
+  pub across : m .x1 ≤ m .x2
+  pub right : m .x2 ≤ b .x2
+  pub low : b .y1 ≤ m .y1
+  pub up : m .y1 ≤ m .y2
+  pub high : m .y2 ≤ b .y2

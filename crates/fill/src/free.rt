@@ -1,0 +1,130 @@
+// The squares of a box outside a table of rectangles, each grown by a gap: what
+// is left of a box outside another is at most four boxes.
+use geometry::Rect;
+use geometry::larger;
+use geometry::smaller;
+ghost use Prim.Native.Nat.{ℕ, _+_, _-_, _*_, _≤_, _<_};
+ghost use mathlib.Core.Path.{_≡_};
+ghost use lib.ListN.{length, getD};
+ghost use Rattle.geometry.specs.Layout.{rectAt};
+ghost use Rattle.fill.specs.Free.{grown, freeFrom, aroundFrom, isEmpty, meeting, Within};
+ghost use Rattle.fill.specs.Limits.{Small};
+
+fn is_empty(b: Rect) -> bool
+    ensures { λ r. ⌜ r ≡ isEmpty b ⌝ }
+{
+    if b.x2 <= b.x1 {
+        return true;
+    }
+    b.y2 <= b.y1
+}
+
+// The number of unit squares of a box.
+fn size(b: Rect) -> u64
+    requires { ⌜ (b .x1 ≤ b .x2) × (b .y1 ≤ b .y2) ⌝ }
+    requires { ⌜ (b .x2 ≤ 1048576) × (b .y2 ≤ 1048576) ⌝ }
+    ensures { λ r. ⌜ r ≡ (b .x2 - b .x1) * (b .y2 - b .y1) ⌝ }
+{
+    (b.x2 - b.x1) * (b.y2 - b.y1)
+}
+
+// The difference, 0 where it would be below.
+fn less(a: u64, b: u64) -> u64
+    ensures { λ r. ⌜ r ≡ a - b ⌝ }
+{
+    if a < b { 0 } else { a - b }
+}
+
+// The rectangle at a place of the table, grown by the gap on all sides.
+fn grown_at(rects: &[u64], gap: u64, at: usize) -> Rect
+    requires { ⌜ at + 3 < length (now rects) ⌝ }
+    requires { ⌜ gap ≤ 1048576 ⌝ }
+    requires { ⌜ ((i : ℕ) → getD (now rects) i 0 ≤ 1048576) ⌝ }
+    ensures { λ r. ⌜ r ≡ grown gap (rectAt (now (rects .entry)) at) ⌝ }
+{
+    Rect {
+        x1: less(rects[at], gap),
+        y1: less(rects[at + 1], gap),
+        x2: rects[at + 2] + gap,
+        y2: rects[at + 3] + gap,
+    }
+}
+
+// What two boxes have in common.
+fn meet(r: Rect, b: Rect) -> Rect
+    ensures { λ m. ⌜ m ≡ meeting r b ⌝ }
+{
+    Rect {
+        x1: larger(r.x1, b.x1),
+        y1: larger(r.y1, b.y1),
+        x2: smaller(r.x2, b.x2),
+        y2: smaller(r.y2, b.y2),
+    }
+}
+
+// What the rectangle at a place of the table, grown by the gap, has in common
+// with a box.
+fn hit_at(rects: &[u64], gap: u64, at: usize, b: Rect) -> Rect
+    requires { ⌜ at + 3 < length (now rects) ⌝ }
+    requires { ⌜ Small (now rects) gap b ⌝ }
+    ensures { λ m. ⌜ m ≡ meeting (grown gap (rectAt (now (rects .entry)) at)) b ⌝ }
+{
+    meet(grown_at(rects, gap, at), b)
+}
+
+// The squares of b that no rectangle from a place on holds, grown by the gap.
+pub fn free_from(rects: &[u64], gap: u64, at: usize, b: Rect) -> u64
+    requires { ⌜ at ≤ length (now rects) ⌝ }
+    requires { ⌜ Small (now rects) gap b ⌝ }
+    ensures { λ r. ⌜ r ≡ freeFrom gap (now (rects .entry)) at b ⌝ }
+{
+    if is_empty(b) {
+        return 0;
+    }
+    if rects.len() <= at + 3 {
+        return size(b);
+    }
+    let m = hit_at(rects, gap, at, b);
+    if is_empty(m) {
+        return free_from(rects, gap, at + 4, b);
+    }
+    free_around(rects, gap, at + 4, b, m)
+}
+
+// The same of the four boxes around m, a box in b.
+fn free_around(rects: &[u64], gap: u64, at: usize, b: Rect, m: Rect) -> u64
+    requires { ⌜ at ≤ length (now rects) ⌝ }
+    requires { ⌜ Small (now rects) gap b ⌝ }
+    requires { ⌜ Within m b ⌝ }
+    ensures { λ r. ⌜ r ≡ aroundFrom gap (now (rects .entry)) at b m ⌝ }
+{
+    let below = Rect {
+        x1: b.x1,
+        y1: b.y1,
+        x2: b.x2,
+        y2: m.y1,
+    };
+    let left = Rect {
+        x1: b.x1,
+        y1: m.y1,
+        x2: m.x1,
+        y2: m.y2,
+    };
+    let right = Rect {
+        x1: m.x2,
+        y1: m.y1,
+        x2: b.x2,
+        y2: m.y2,
+    };
+    let above = Rect {
+        x1: b.x1,
+        y1: m.y2,
+        x2: b.x2,
+        y2: b.y2,
+    };
+    let p = free_from(rects, gap, at, below);
+    let q = free_from(rects, gap, at, left);
+    let r = free_from(rects, gap, at, right);
+    let s = free_from(rects, gap, at, above);
+    p + q + r + s
+}
