@@ -1,0 +1,61 @@
+-- Lines are spelled by patterns: bytes as they stand, and for each # the decimal spelling of the next number.
+use Prim.Native.Nat.{ℕ, suc, _+_, _-_}
+use mathlib.Core.Path.{_≡_}
+use mathlib.Core.Bool.{Bool, true, false}
+use mathlib.Core.List.{List, [], _∷_, _++_}
+use mathlib.Core.Option.{Option, none, some}
+use lib.Dec.{eqb}
+use lib.ListN.{length, replicate, take, drop}
+use Rattle.spelling.specs.declared.Reading.{Reading}
+use Rattle.spelling.specs.Decimal.{decimal, digitsOf, pastDigits, valueFrom, isNumeral}
+
+-- the byte #, a place for a number
+abbrev pub isPlace : ℕ → Bool
+isPlace c = eqb c 35
+
+-- how many numbers a pattern asks for
+unfoldable pub places : List ℕ → ℕ
+places [] = 0
+places (c ∷ p) = elim (isPlace c) [ true ↦ suc (places p) | false ↦ places p ]
+
+-- the spelling of a pattern with numbers
+unfoldable pub spell : List ℕ → List ℕ → List ℕ
+spell [] ns = []
+spell (c ∷ p) [] = c ∷ spell p []
+spell (c ∷ p) (n ∷ ns) = elim (isPlace c) [ true ↦ decimal n ++ spell p ns | false ↦ c ∷ spell p (n ∷ ns) ]
+
+-- one more number in front of what was read
+abbrev pub withNumber : ℕ → Option (List ℕ) → Option (List ℕ)
+withNumber n none = none
+withNumber n (some ns) = some (n ∷ ns)
+
+-- the numbers with which a line spells a pattern, each of at most `most` digits; none where no numbers do.
+-- proofs/Inverse.antt shows both ways that this is the inverse of `spell`, for patterns in which no # is followed by a digit or another #
+-- (`wellFormed`); all patterns of the product are such.
+unfoldable pub readAs : (most : ℕ) → (pattern line : List ℕ) → Option (List ℕ)
+readAs most [] [] = some []
+readAs most [] (b ∷ s) = none
+readAs most (c ∷ p) [] = none
+readAs most (c ∷ p) (b ∷ s) =
+    elim (isPlace c) [
+      | true ↦
+          elim (isNumeral most (digitsOf (b ∷ s))) [
+            | true ↦ withNumber (valueFrom 0 (digitsOf (b ∷ s))) (readAs most p (pastDigits (b ∷ s)))
+            | false ↦ none
+          ]
+      | false ↦ elim (eqb b c) [ true ↦ readAs most p s | false ↦ none ]
+    ]
+
+-- what was read, as the code returns it: the numbers in order, 0 behind them and everywhere where nothing was read
+abbrev pub asReading : Option (List ℕ) → Reading
+asReading none = record { ok = false; count = 0; values = replicate 8 0 }
+asReading (some ns) = record { ok = true; count = length ns; values = ns ++ replicate (8 - length ns) 0 }
+
+-- a buffer with a text at a place, and before and behind it as it was
+abbrev pub written : (buffer : List ℕ) (at : ℕ) (text : List ℕ) → List ℕ
+written l at w = take at l ++ w ++ drop (at + length w) l
+
+-- what writing a text leaves in a buffer, and the place after it
+pub record Written (before : List ℕ) (at : ℕ) (text after : List ℕ) (next : ℕ) : Type 0 where
+  pub buffer : after ≡ written before at text
+  pub place : next ≡ at + length text

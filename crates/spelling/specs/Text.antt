@@ -1,0 +1,26 @@
+-- Quoted text as bytes, so that a definition shows a line as it is written.
+use Prim.Native.Nat.{ℕ, suc}
+use Prim.Native.Char.{code}
+use Prim.Native.String.{String, [] as empty, _∷_ as _then_}
+use mathlib.Core.Bool.{true, false}
+use mathlib.Core.List.{List, [], _∷_}
+use lib.Dec.{eqb}
+
+unfoldable pub bytes : String → List ℕ
+bytes empty = []
+bytes (c then s) = code c ∷ bytes s
+
+-- one more byte in front of the first of some pieces
+abbrev pub inFront : ℕ → List (List ℕ) → List (List ℕ)
+inFront b [] = (b ∷ []) ∷ []
+inFront b (p ∷ ps) = (b ∷ p) ∷ ps
+
+-- the pieces of a text between its line feeds: its lines, and last what follows the last line feed
+unfoldable pub parts : List ℕ → List (List ℕ)
+parts [] = [] ∷ []
+parts (b ∷ s) = elim (eqb b 10) [ true ↦ [] ∷ parts s | false ↦ inFront b (parts s) ]
+
+-- the length of the first line: of what stands before the first line feed, or of all where there is none
+unfoldable pub lineLength : List ℕ → ℕ
+lineLength [] = 0
+lineLength (b ∷ s) = elim (eqb b 10) [ true ↦ 0 | false ↦ suc (lineLength s) ]
