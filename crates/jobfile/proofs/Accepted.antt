@@ -1,0 +1,150 @@
+-- What a layer above may rely on where a file was accepted.
+use Prim.Native.Nat.{ℕ, suc, _+_, _-_, _*_, _/_, _%_, _≤_, _<_}
+use mathlib.Core.Path.{_≡_, refl, ap₂, subst}
+use mathlib.Core.Bool.{true, _&&_}
+use mathlib.Core.List.{List, [], _∷_}
+use mathlib.Core.Logic.{_⊎_, inl, inr}
+use native.Mathlib.Nat.{le-trans, div-add-mod', mod-lt, div-lt-iff-lt-mul, suc-mul, le-of-eq}
+use native.Mathlib.Omega.{arith}
+use lib.Dec.{leb, ltb, lit≤}
+use lib.ListN.{length, getD, take, replicate, List·getD-eq-default}
+use lib.Seq.{take-at}
+use borrow.Author.Tests.{ltb-true, leb-true}
+use Rattle.geometry.specs.declared.Rect.{Rect}
+use Rattle.geometry.specs.Layout.{Disjoint, Drawn}
+use Rattle.geometry.proofs.Counting.{le-or-lt}
+use Rattle.fill.specs.Eligible.{tile, fillableArea}
+use Rattle.fill.specs.Free.{grownAll}
+use Rattle.fill.proofs.Grown.{fillable-grown, free-small}
+use Rattle.spelling.proofs.Numerals.{both}
+use Rattle.jobfile.specs.declared.Head.{Head}
+use Rattle.jobfile.specs.declared.Form.{Form}
+use Rattle.jobfile.specs.declared.Turn.the-variants.{Before}
+use Rattle.jobfile.specs.Limits.{mostShapes}
+use Rattle.jobfile.specs.Forms.{tileSide, tilesAcross}
+use Rattle.jobfile.specs.Faults.{Standing, tileIndex, fitsLayout}
+use Rattle.jobfile.specs.File.{accepted, outcomeOf, tableOf, padded}
+use Rattle.jobfile.specs.Held.{tileCount, GoodShapes, Sound}
+use Rattle.jobfile.proofs.Heads.{HeadFacts, head-facts, positive}
+use Rattle.jobfile.proofs.Tables.{length-table, rects-of-table, table-small}
+use Rattle.jobfile.proofs.Sound.{sound-after, sound-nothing}
+use Rattle.jobfile.proofs.Files.{Good, none, next, accepted-as}
+
+-- a rectangle has its corners in order, in the layout
+pub record InLayout (h : Head) (r : Rect) : Type 0 where
+  pub across : r .x1 < r .x2
+  pub down : r .y1 < r .y2
+  pub right : r .x2 ≤ h .size
+  pub high : r .y2 ≤ h .size
+
+unfoldable pub AllInLayout : Head → List Rect → Type 0
+AllInLayout h [] = Unit {0}
+AllInLayout h (r ∷ rs) = InLayout h r × AllInLayout h rs
+
+pub record AcceptedFacts (st : Standing) : Type 0 where
+  pub head : HeadFacts (st .head)
+  pub few : length (st .shapes) ≤ mostShapes
+  pub inside : AllInLayout (st .head) (st .shapes)
+  pub apart : Disjoint (st .shapes)
+  pub drawn : Drawn (tableOf (st .shapes))
+  pub sized : length (st .amounts) ≡ tileCount (st .head)
+  pub fillable : (i j : ℕ) → i < tilesAcross (st .head) → j < tilesAcross (st .head) →
+      getD (st .amounts) (tileIndex (st .head) i j) 0 ≤ fillableArea (st .head .gap) (st .shapes) (tile (tileSide (st .head)) i j)
+
+in-layout : (h : Head) (r : Rect) → fitsLayout h r ≡ true → InLayout h r
+in-layout h r e =
+    record {
+      across = ltb-true (r .x1) (r .x2) (a .0);
+      down = ltb-true (r .y1) (r .y2) (a .1);
+      right = leb-true (r .x2) (h .size) (b .0);
+      high = leb-true (r .y2) (h .size) (b .1);
+    }
+  where
+    k : ((ltb (r .x1) (r .x2) && ltb (r .y1) (r .y2)) ≡ true) × ((leb (r .x2) (h .size) && leb (r .y2) (h .size)) ≡ true)
+    k = both (ltb (r .x1) (r .x2) && ltb (r .y1) (r .y2)) (leb (r .x2) (h .size) && leb (r .y2) (h .size)) e
+
+    a : (ltb (r .x1) (r .x2) ≡ true) × (ltb (r .y1) (r .y2) ≡ true)
+    a = both (ltb (r .x1) (r .x2)) (ltb (r .y1) (r .y2)) (k .0)
+
+    b : (leb (r .x2) (h .size) ≡ true) × (leb (r .y2) (h .size) ≡ true)
+    b = both (leb (r .x2) (h .size)) (leb (r .y2) (h .size)) (k .1)
+
+all-in-layout : (h : Head) (rs : List Rect) → GoodShapes h rs → AllInLayout h rs
+unfolding GoodShapes AllInLayout
+all-in-layout h [] g = tt
+all-in-layout h (r ∷ rs) g = (in-layout h r (g .1), all-in-layout h rs (g .2))
+
+-- the table of good rectangles is drawn
+table-drawn : (h : Head) (rs : List Rect) → GoodShapes h rs → Disjoint rs → length rs ≤ mostShapes → Drawn (tableOf rs)
+table-drawn h rs g d l =
+    record {
+      few = omega (arith, length-table rs);
+      small = λ i. le-trans (table-small h rs g i) (lit≤ tt);
+      apart = rw (rects-of-table rs) d;
+    }
+
+-- good forms keep what is so
+good-sound : {st st′ : Standing} {fs : List Form} → Good st fs st′ → Sound st → Sound st′
+good-sound none s = s
+good-sound (next {st = x} {f = f} e g) s = good-sound g (sound-after x f s e)
+
+pub accepted-sound : (file : List ℕ) (st : Standing) → outcomeOf file ≡ accepted st → Sound st
+accepted-sound file st e = good-sound (accepted-as file st e .good) sound-nothing
+
+pub accepted-facts : (file : List ℕ) (st : Standing) → outcomeOf file ≡ accepted st → AcceptedFacts st
+accepted-facts file st e =
+    record {
+      head = head-facts (st .head) (s .headed headed);
+      few = s .few;
+      inside = all-in-layout (st .head) (st .shapes) (s .good);
+      apart = s .apart;
+      drawn = table-drawn (st .head) (st .shapes) (s .good) (s .apart) (s .few);
+      sized = s .sized;
+      fillable = s .fillable;
+    }
+  where
+    s : Sound st
+    s = accepted-sound file st e
+
+    headed : st .turn ≡ Before → ⊥
+    headed b = let d = accepted-as file st e .ended in let z : _≡_ {A = ℕ} 0 1 = cc in omega arith
+
+-- ---- the reader's tables, in which zeros stand behind
+
+pub padded-front : (n : ℕ) (s : List ℕ) → take (length s) (padded n s) ≡ s
+padded-front n s = take-at s (replicate (n - length s) 0) (length s) refl
+
+pub table-front : (rs : List Rect) → take (4 * length rs) (padded 1024 (tableOf rs)) ≡ tableOf rs
+table-front rs = take-at (tableOf rs) (replicate (1024 - length (tableOf rs)) 0) (4 * length rs) (length-table rs)
+
+-- ---- an amount is at most its tile's area
+
+tile-width : (i d : ℕ) → suc i * d - i * d ≡ d
+tile-width i d = omega (arith, suc-mul i d)
+
+fillable-small : (g : ℕ) (rs : List Rect) (d i j : ℕ) → fillableArea g rs (tile d i j) ≤ d * d
+fillable-small g rs d i j =
+    rw (fillable-grown g rs (tile d i j))
+    (le-trans (free-small (grownAll g rs) (tile d i j)) (le-of-eq (ap₂ _*_ (tile-width i d) (tile-width j d))))
+
+pub amount-room : (st : Standing) → AcceptedFacts st → (i : ℕ) → getD (st .amounts) i 0 ≤ tileSide (st .head) * tileSide (st .head)
+amount-room st f i = go (le-or-lt (length (st .amounts)) i)
+  where
+    t : ℕ
+    t = tilesAcross (st .head)
+
+    d : ℕ
+    d = tileSide (st .head)
+
+    some : i < tileCount (st .head) → 0 < tilesAcross (st .head)
+    some h = positive (tilesAcross (st .head)) (tilesAcross (st .head)) (omega arith)
+
+    go : (length (st .amounts) ≤ i) ⊎ (i < length (st .amounts)) → getD (st .amounts) i 0 ≤ tileSide (st .head) * tileSide (st .head)
+    go (inl h) = omega (arith, List·getD-eq-default (st .amounts) 0 h)
+    go (inr h) =
+        let within : i < tileCount (st .head) = omega (arith, f .sized) in
+        let column : i % t < t = mod-lt i (some within) in
+        let row : i / t < t = div-lt-iff-lt-mul (some within) .1 within in
+        let place : i / t * t + i % t ≡ i = div-add-mod' i t in
+        le-trans (subst (λ (n : ℕ). getD (st .amounts) n 0 ≤ fillableArea (st .head .gap) (st .shapes) (tile d (i % t) (i / t))) place (f .fillable (i % t) (i / t) column row))
+        (fillable-small (st .head .gap) (st .shapes) d (i % t) (i / t))

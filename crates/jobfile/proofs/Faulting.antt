@@ -1,0 +1,245 @@
+-- The faults of a line, test by test, as the code finds them.
+use Prim.Native.Nat.{ℕ, _+_, _*_, _≤_, _<_}
+use mathlib.Core.Path.{_≡_, refl, sym, ap, _∙_}
+use mathlib.Core.Bool.{Bool, true, false}
+use mathlib.Core.List.{List, []}
+use native.Mathlib.Nat.{le-trans, lt-of-lt-of-le}
+use native.Mathlib.Numerals.{add-one}
+use native.Mathlib.Omega.{arith}
+use lib.Arith.{digits-lt}
+use lib.Dec.{leb, ltb, eqb, lit≤}
+use lib.ListN.{length, getD, take}
+use lib.Seq.{length-take-le, getD-take}
+use borrow.Author.Tests.{lt-ltb, le-ltb, le-leb, lt-leb, eq-eqb, ne-eqb, ltb-true, ltb-false}
+use Rattle.geometry.specs.declared.Rect.{Rect}
+use Rattle.geometry.specs.Layout.{rectsOf, coveredArea, sharesSquare, Drawn}
+use Rattle.fill.specs.Eligible.{tile, fillableArea}
+use Rattle.fill.specs.Limits.{Small}
+use Rattle.jobfile.specs.declared.Head.{Head}
+use Rattle.jobfile.specs.declared.Form.{Form}
+use Rattle.jobfile.specs.declared.Form.the-variants.{Unknown, Start, Shape, Fill, End}
+use Rattle.jobfile.specs.declared.State.{State}
+use Rattle.jobfile.specs.declared.Turn.{Turn}
+use Rattle.jobfile.specs.declared.Turn.the-variants.{Before, Shapes, Fills, Done}
+use Rattle.jobfile.specs.Limits.{mostShapes}
+use Rattle.jobfile.specs.Forms.{inRange, tileSide, tilesAcross, agrees}
+use Rattle.jobfile.specs.Faults.{Standing, inTurn, known, tileIndex, unless, fitsLayout, shapeFault, fillFault, ownFault, lineFault}
+use Rattle.jobfile.specs.Held.{rankOf, tileCount, standing, GoodHead, Held}
+use Rattle.geometry.proofs.Tables.{rects-length}
+use Rattle.jobfile.proofs.Tables.{drawn-so-far}
+use Rattle.jobfile.proofs.Heads.{HeadFacts, head-facts, tile-end}
+use Rattle.jobfile.proofs.Sound.{after-head}
+
+-- ---- the turn
+
+-- the turn by where forms come in a file
+by-rank : Turn → ℕ → Bool
+by-rank Before n = eqb n 1
+by-rank Shapes n = leb 2 n
+by-rank Fills n = leb 3 n
+by-rank Done n = false
+
+turn-rank : (t : Turn) (f : Form) → by-rank t (rankOf f) ≡ inTurn t f
+unfolding by-rank
+turn-rank Before Unknown = refl
+turn-rank Before (Start h) = refl
+turn-rank Before (Shape r) = refl
+turn-rank Before (Fill i j p) = refl
+turn-rank Before End = refl
+turn-rank Shapes Unknown = refl
+turn-rank Shapes (Start h) = refl
+turn-rank Shapes (Shape r) = refl
+turn-rank Shapes (Fill i j p) = refl
+turn-rank Shapes End = refl
+turn-rank Fills Unknown = refl
+turn-rank Fills (Start h) = refl
+turn-rank Fills (Shape r) = refl
+turn-rank Fills (Fill i j p) = refl
+turn-rank Fills End = refl
+turn-rank Done f = refl
+
+module _ (t : Turn) (f : Form) (n : ℕ) (e : n ≡ rankOf f) where
+  by : (u : Turn) → t ≡ u → by-rank u n ≡ inTurn t f
+  by u q = rw (e, ← q) (turn-rank t f)
+
+  pub turn-before : t ≡ Before → eqb n 1 ≡ inTurn t f
+  unfolding by-rank
+  turn-before q = by Before q
+
+  pub turn-shapes : t ≡ Shapes → leb 2 n ≡ inTurn t f
+  unfolding by-rank
+  turn-shapes q = by Shapes q
+
+  pub turn-fills : t ≡ Fills → leb 3 n ≡ inTurn t f
+  unfolding by-rank
+  turn-fills q = by Fills q
+
+-- a line that is one of the spellings
+known-rank : (f : Form) → ltb 0 (rankOf f) ≡ known f
+known-rank Unknown = refl
+known-rank (Start h) = refl
+known-rank (Shape r) = refl
+known-rank (Fill i j p) = refl
+known-rank End = refl
+
+pub known-by : (f : Form) (n : ℕ) → n ≡ rankOf f → ltb 0 n ≡ known f
+known-by f n e = rw e (known-rank f)
+
+-- ---- a head
+
+pub head-wrong : (h : Head) (r : Bool) → r ≡ agrees h → r ≡ false → 5 ≡ unless (agrees h) 5 0
+head-wrong h r a b = rw (← a, b)
+
+pub head-right : (h : Head) (r : Bool) → r ≡ agrees h → r ≡ true → 0 ≡ unless (agrees h) 5 0
+head-right h r a b = rw (← a, b)
+
+-- ---- a line
+
+module _ (st : Standing) (f : Form) where
+  pub line-unknown : (r : Bool) → r ≡ known f → r ≡ false → 2 ≡ lineFault st f
+  unfolding lineFault
+  line-unknown r a b = rw (← a, b)
+
+  module _ (r₁ : Bool) (a₁ : r₁ ≡ known f) (b₁ : r₁ ≡ true) where
+    pub line-range : (r : Bool) → r ≡ inRange f → r ≡ false → 3 ≡ lineFault st f
+    unfolding lineFault
+    line-range r a b = rw (← a₁, b₁, ← a, b)
+
+    module _ (r₂ : Bool) (a₂ : r₂ ≡ inRange f) (b₂ : r₂ ≡ true) where
+      pub line-turn : (r : Bool) → r ≡ inTurn (st .turn) f → r ≡ false → 4 ≡ lineFault st f
+      unfolding lineFault
+      line-turn r a b = rw (← a₁, b₁, ← a₂, b₂, ← a, b)
+
+      pub line-own : (r : Bool) (n : ℕ) → r ≡ inTurn (st .turn) f → r ≡ true → n ≡ ownFault st f → n ≡ lineFault st f
+      unfolding lineFault
+      line-own r n a b e = rw (← a₁, b₁, ← a₂, b₂, ← a, b) e
+
+-- ---- a rectangle
+
+module _ (s : State) (rects : List ℕ) (r : Rect) (whole : 4 * s .count ≤ length rects) where
+  counted : length (rectsOf (take (4 * s .count) rects)) ≡ s .count
+  counted = rects-length (s .count) (take (4 * s .count) rects) (length-take-le (4 * s .count) rects whole)
+
+  pub shape-outside : (t : Bool) → t ≡ fitsLayout (s .head) r → t ≡ false → 6 ≡ shapeFault (standing s rects []) r
+  unfolding shapeFault
+  shape-outside t a b = rw (← a, b)
+
+  module _ (t : Bool) (a : t ≡ fitsLayout (s .head) r) (b : t ≡ true) where
+    pub shape-many : mostShapes ≤ s .count → 8 ≡ shapeFault (standing s rects []) r
+    unfolding shapeFault
+    shape-many h = rw (← a, b, counted, le-ltb (s .count) mostShapes h)
+
+    pub shape-shared : (u : Bool) → s .count < mostShapes → u ≡ sharesSquare (rectsOf (take (4 * s .count) rects)) r → u ≡ true →
+        9 ≡ shapeFault (standing s rects []) r
+    unfolding shapeFault
+    shape-shared u h p q =
+        rw (← a, b, counted, lt-ltb (s .count) mostShapes h, ne-eqb (coveredArea (rectsOf (take (4 * s .count) rects)) r) 0 (λ e. omega (arith, some)))
+      where
+        some : 0 < coveredArea (rectsOf (take (4 * s .count) rects)) r
+        some = ltb-true 0 (coveredArea (rectsOf (take (4 * s .count) rects)) r) (sym p ∙ q)
+
+    pub shape-right : (u : Bool) → s .count < mostShapes → u ≡ sharesSquare (rectsOf (take (4 * s .count) rects)) r → u ≡ false →
+        0 ≡ shapeFault (standing s rects []) r
+    unfolding shapeFault
+    shape-right u h p q =
+        rw (← a, b, counted, lt-ltb (s .count) mostShapes h, eq-eqb (coveredArea (rectsOf (take (4 * s .count) rects)) r) 0 (omega (arith, none)))
+      where
+        none : coveredArea (rectsOf (take (4 * s .count) rects)) r ≤ 0
+        none = ltb-false 0 (coveredArea (rectsOf (take (4 * s .count) rects)) r) (sym p ∙ q)
+
+-- ---- a fill
+
+module _ (s : State) (rects amounts : List ℕ) (i j p t : ℕ) (e : t ≡ tilesAcross (s .head)) where
+  pub fill-column : t ≤ i → 7 ≡ fillFault (standing s rects amounts) i j p
+  unfolding fillFault
+  fill-column h = rw (← e, le-ltb i t h)
+
+  module _ (hi : i < t) where
+    pub fill-row : t ≤ j → 7 ≡ fillFault (standing s rects amounts) i j p
+    unfolding fillFault
+    fill-row h = rw (← e, lt-ltb i t hi, le-ltb j t h)
+
+    module _ (hj : j < t) (at : ℕ) (place : at ≡ tileIndex (s .head) i j) where
+      inside : tileIndex (s .head) i j < tileCount (s .head)
+      inside = rw (← e) (digits-lt hj hi)
+
+      stands : getD (take (tileCount (s .head)) amounts) (tileIndex (s .head) i j) 0 ≡ getD amounts at 0
+      stands = getD-take (tileCount (s .head)) amounts (tileIndex (s .head) i j) 0 inside ∙ ap (λ (k : ℕ). getD amounts k 0) (sym place)
+
+      pub fill-taken : (getD amounts at 0 ≡ 0 → ⊥) → 10 ≡ fillFault (standing s rects amounts) i j p
+      unfolding fillFault
+      fill-taken n = rw (← e, lt-ltb i t hi, lt-ltb j t hj, e, stands, ne-eqb (getD amounts at 0) 0 n)
+
+      module _ (free : getD amounts at 0 ≡ 0) (room : ℕ)
+          (area : room ≡ fillableArea (s .head .gap) (rectsOf (take (4 * s .count) rects)) (tile (tileSide (s .head)) i j)) where
+        pub fill-over : room < p → 11 ≡ fillFault (standing s rects amounts) i j p
+        unfolding fillFault
+        fill-over h = rw (← e, lt-ltb i t hi, lt-ltb j t hj, e, stands, eq-eqb (getD amounts at 0) 0 free, ← area, lt-leb p room h)
+
+        pub fill-right : p ≤ room → 0 ≡ fillFault (standing s rects amounts) i j p
+        unfolding fillFault
+        fill-right h = rw (← e, lt-ltb i t hi, lt-ltb j t hj, e, stands, eq-eqb (getD amounts at 0) 0 free, ← area, le-leb p room h)
+
+-- what the code asks of the tables: the rectangles so far are there and drawn
+pub record Ready (s : State) (rects : List ℕ) : Type 0 where
+  pub within : 4 * s .count ≤ length rects
+  pub drawn : Drawn (take (4 * s .count) rects)
+
+pub ready : (s : State) (rects amounts : List ℕ) → Held s rects amounts → Ready s rects
+ready s rects amounts k =
+    record {
+      within = omega (arith, k .room, k .count);
+      drawn = drawn-so-far (s .head) rects (s .count) (omega (arith, k .count)) (k .room) (k .sound .good) (k .sound .apart);
+    }
+
+-- the place of a tile is in the table of amounts
+pub tile-in-table : (s : State) (rects amounts : List ℕ) (i j t at : ℕ) → Held s rects amounts → t ≡ tilesAcross (s .head) → i < t → j < t →
+    at ≡ tileIndex (s .head) i j → at < 4096
+tile-in-table s rects amounts i j t at k e hi hj place = rw place (lt-of-lt-of-le (rw (← e) (digits-lt hj hi)) (k .tiles))
+
+-- what the fillable area of a tile asks
+pub tile-small : (s : State) (rects : List ℕ) (i j : ℕ) (b : Rect) → Drawn (take (4 * s .count) rects) → GoodHead (s .head) → i < tilesAcross (s .head) →
+    j < tilesAcross (s .head) → b ≡ tile (tileSide (s .head)) i j → Small (take (4 * s .count) rects) (s .head .gap) b
+tile-small s rects i j b d g hi hj e =
+    rw e
+    (record {
+      numbers = d .small;
+      narrow = le-trans (f .gap-most) (lit≤ tt);
+      right = le-trans (tile-end (s .head) i f hi) (lit≤ tt);
+      high = le-trans (tile-end (s .head) j f hj) (lit≤ tt);
+    })
+  where
+    f : HeadFacts (s .head)
+    f = head-facts (s .head) g
+
+-- ---- a form of its own kind
+
+module _ (s : State) (rects amounts : List ℕ) (f : Form) where
+  pub own-unknown : f ≡ Unknown → 2 ≡ ownFault (standing s rects amounts) f
+  own-unknown e = rw e
+
+  pub own-start : (h : Head) (n : ℕ) → f ≡ Start h → n ≡ unless (agrees h) 5 0 → n ≡ ownFault (standing s rects amounts) f
+  own-start h n e k = rw e k
+
+  pub own-shape : (r : Rect) (n : ℕ) → f ≡ Shape r → n ≡ shapeFault (standing s rects []) r → n ≡ ownFault (standing s rects amounts) f
+  unfolding shapeFault
+  own-shape r n e k = rw e k
+
+  pub own-fill : (i j p n : ℕ) → f ≡ Fill i j p → n ≡ fillFault (standing s rects amounts) i j p → n ≡ ownFault (standing s rects amounts) f
+  own-fill i j p n e k = rw e k
+
+  pub own-end : f ≡ End → 0 ≡ ownFault (standing s rects amounts) f
+  own-end e = rw e
+
+  -- a fill in turn comes after a good head
+  pub fill-headed : (i j p : ℕ) → Held s rects amounts → f ≡ Fill i j p → inTurn (s .turn) f ≡ true → GoodHead (s .head)
+  fill-headed i j p k e t = k .sound .headed (after-head (s .turn) f t (λ h q. let z : _≡_ {A = ℕ} 0 1 = cc in omega arith))
+
+-- what a tile's corners ask
+pub tile-corners : (h : Head) (i j d : ℕ) → GoodHead h → i < tilesAcross h → j < tilesAcross h → d ≡ tileSide h →
+    (((i + 1) * d ≤ 65535) × ((j + 1) * d ≤ 65535)) × ((i < 65535) × (j < 65535))
+tile-corners h i j d g hi hj e =
+    ((rw (e, add-one i) (tile-end h i f hi), rw (e, add-one j) (tile-end h j f hj)), (omega (arith, f .tiles-most), omega (arith, f .tiles-most)))
+  where
+    f : HeadFacts h
+    f = head-facts h g

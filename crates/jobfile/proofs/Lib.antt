@@ -1,0 +1,11 @@
+pub mod Tests
+pub mod Tables
+pub mod Sound
+pub mod Entering
+pub mod Heads
+pub mod Faulting
+pub mod Reading
+pub mod Lines
+pub mod Spelled
+pub mod Files
+pub mod Accepted

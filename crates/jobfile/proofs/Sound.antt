@@ -1,0 +1,217 @@
+-- What is so after good lines stays so after one more.
+use Prim.Native.Nat.{ℕ, _+_, _*_, _/_, _%_, _≤_, _<_}
+use mathlib.Core.Path.{_≡_, refl, sym, ap, _∙_}
+use mathlib.Core.Bool.{true, _&&_, false≢true}
+use mathlib.Core.List.{List, [], _∷_, _++_}
+use native.Mathlib.Decide.{ℕ-discrete}
+use native.Mathlib.Omega.{arith}
+use lib.Dec.{leb, ltb, eqb, lit<, lit≤}
+use lib.Arith.{digits-lt, digits-div, digits-mod}
+use lib.ListN.{length, getD, set, replicate, length-append, length-set, length-replicate}
+use lib.Seq.{getD-set-same, getD-set-other}
+use borrow.Author.Tests.{le-ltb, ltb-true, leb-true, eqb-true}
+use Rattle.geometry.specs.declared.Rect.{Rect}
+use Rattle.geometry.specs.Layout.{coveredArea, Disjoint}
+use Rattle.geometry.proofs.Sharing.{shares-none}
+use Rattle.geometry.proofs.Tables.{disjoint-more}
+use Rattle.fill.specs.Eligible.{tile, fillableArea}
+use Rattle.spelling.proofs.Numerals.{both}
+use Rattle.jobfile.specs.declared.Head.{Head}
+use Rattle.jobfile.specs.declared.Form.{Form}
+use Rattle.jobfile.specs.declared.Form.the-variants.{Unknown, Start, Shape, Fill, End}
+use Rattle.jobfile.specs.declared.Turn.{Turn}
+use Rattle.jobfile.specs.declared.Turn.the-variants.{Before, Shapes, Fills, Done}
+use Rattle.jobfile.specs.Limits.{mostShapes}
+use Rattle.jobfile.specs.Forms.{inRange, rectInRange, tileSide, tilesAcross, agrees}
+use Rattle.jobfile.specs.Faults.{Standing, nothing, inTurn, known, tileIndex, unless, fitsLayout, shapeFault, fillFault, ownFault, lineFault, standsAfter}
+use Rattle.jobfile.specs.Held.{tileCount, GoodShapes, Sound}
+use Rattle.jobfile.proofs.Tests.{unless-none}
+use Rattle.jobfile.proofs.Tables.{getD-zeros}
+
+-- ---- a good line, test by test
+
+pub record NoFault (st : Standing) (f : Form) : Type 0 where
+  pub spelled : known f ≡ true
+  pub range : inRange f ≡ true
+  pub turn : inTurn (st .turn) f ≡ true
+  pub own : ownFault st f ≡ 0
+
+pub no-fault : (st : Standing) (f : Form) → lineFault st f ≡ 0 → NoFault st f
+unfolding lineFault
+no-fault st f e =
+    let a = unless-none (known f) 2 (unless (inRange f) 3 (unless (inTurn (st .turn) f) 4 (ownFault st f))) (lit< tt) e in
+    let b = unless-none (inRange f) 3 (unless (inTurn (st .turn) f) 4 (ownFault st f)) (lit< tt) (a .1) in
+    let c = unless-none (inTurn (st .turn) f) 4 (ownFault st f) (lit< tt) (b .1) in
+    record { spelled = a .0; range = b .0; turn = c .0; own = c .1 }
+
+pub record NoShapeFault (st : Standing) (r : Rect) : Type 0 where
+  pub fits : fitsLayout (st .head) r ≡ true
+  pub room : length (st .shapes) < mostShapes
+  pub free : coveredArea (st .shapes) r ≡ 0
+
+pub no-shape-fault : (st : Standing) (r : Rect) → shapeFault st r ≡ 0 → NoShapeFault st r
+unfolding shapeFault
+no-shape-fault st r e =
+    let room = ltb (length (st .shapes)) mostShapes in
+    let free = eqb (coveredArea (st .shapes) r) 0 in
+    let a = unless-none (fitsLayout (st .head) r) 6 (unless room 8 (unless free 9 0)) (lit< tt) e in
+    let b = unless-none room 8 (unless free 9 0) (lit< tt) (a .1) in
+    let c = unless-none free 9 0 (lit< tt) (b .1) in
+    record { fits = a .0; room = ltb-true _ _ (b .0); free = eqb-true _ _ (c .0) }
+
+pub record NoFillFault (st : Standing) (i j p : ℕ) : Type 0 where
+  pub column : i < tilesAcross (st .head)
+  pub row : j < tilesAcross (st .head)
+  pub free : getD (st .amounts) (tileIndex (st .head) i j) 0 ≡ 0
+  pub fits : p ≤ fillableArea (st .head .gap) (st .shapes) (tile (tileSide (st .head)) i j)
+
+pub no-fill-fault : (st : Standing) (i j p : ℕ) → fillFault st i j p ≡ 0 → NoFillFault st i j p
+unfolding fillFault
+no-fill-fault st i j p e =
+    let inside = ltb i (tilesAcross (st .head)) && ltb j (tilesAcross (st .head)) in
+    let free = eqb (getD (st .amounts) (tileIndex (st .head) i j) 0) 0 in
+    let fits = leb p (fillableArea (st .head .gap) (st .shapes) (tile (tileSide (st .head)) i j)) in
+    let a = unless-none inside 7 (unless free 10 (unless fits 11 0)) (lit< tt) e in
+    let b = unless-none free 10 (unless fits 11 0) (lit< tt) (a .1) in
+    let c = unless-none fits 11 0 (lit< tt) (b .1) in
+    let k = both (ltb i (tilesAcross (st .head))) (ltb j (tilesAcross (st .head))) (a .0) in
+    record { column = ltb-true _ _ (k .0); row = ltb-true _ _ (k .1); free = eqb-true _ _ (b .0); fits = leb-true _ _ (c .0) }
+
+-- ---- the turn
+
+pub shape-turn : (t : Turn) (r : Rect) → inTurn t (Shape r) ≡ true → t ≡ Shapes
+shape-turn Before r e = absurd (false≢true e)
+shape-turn Shapes r e = refl
+shape-turn Fills r e = absurd (false≢true e)
+shape-turn Done r e = absurd (false≢true e)
+
+-- what is in turn and no head comes after the head
+pub after-head : (t : Turn) (f : Form) → inTurn t f ≡ true → ((h : Head) → f ≡ Start h → ⊥) → t ≡ Before → ⊥
+after-head Before Unknown e n b = absurd (false≢true e)
+after-head Before (Start h) e n b = n h refl
+after-head Before (Shape r) e n b = absurd (false≢true e)
+after-head Before (Fill i j p) e n b = absurd (false≢true e)
+after-head Before End e n b = absurd (false≢true e)
+after-head Shapes f e n b = let z : _≡_ {A = ℕ} 0 1 = cc in omega arith
+after-head Fills f e n b = let z : _≡_ {A = ℕ} 0 1 = cc in omega arith
+after-head Done f e n b = let z : _≡_ {A = ℕ} 0 1 = cc in omega arith
+
+not-before : {A : Type 0} → Shapes ≡ Before → A
+not-before e = let z : _≡_ {A = ℕ} 0 1 = cc in absurd (omega arith)
+
+-- ---- one more rectangle
+
+good-more : (h : Head) (rs : List Rect) (r : Rect) → GoodShapes h rs → rectInRange r ≡ true → fitsLayout h r ≡ true → GoodShapes h (rs ++ (r ∷ []))
+unfolding GoodShapes
+good-more h [] r g e f = (e, f, tt)
+good-more h (q ∷ rs) r g e f = (g .0, g .1, good-more h rs r (g .2) e f)
+
+-- ---- one more amount
+
+-- a tile's place in the table names the tile
+same-tile : (t i j u v : ℕ) → i < t → u < t → j * t + i ≡ v * t + u → (i ≡ u) × (j ≡ v)
+same-tile t i j u v h k e = (sym (digits-mod j h) ∙ ap (λ (n : ℕ). n % t) e ∙ digits-mod v k, sym (digits-div j h) ∙ ap (λ (n : ℕ). n / t) e ∙ digits-div v k)
+
+-- an amount that was set is the one of its tile, and the others are as they were
+amount-set : (t : ℕ) (l : List ℕ) (i j p u v : ℕ) (bound : ℕ → ℕ → ℕ) → length l ≡ t * t → i < t → j < t → u < t → v < t → p ≤ bound i j →
+    getD l (v * t + u) 0 ≤ bound u v → getD (set l (j * t + i) p) (v * t + u) 0 ≤ bound u v
+amount-set t l i j p u v bound e hi hj hu hv fits old = go (ℕ-discrete (v * t + u) (j * t + i))
+  where
+    go : Dec (v * t + u ≡ j * t + i) → getD (set l (j * t + i) p) (v * t + u) 0 ≤ bound u v
+    go (yes q) =
+        let k = same-tile t i j u v hi hu (sym q) in
+        rw (q, getD-set-same l (j * t + i) p 0 (rw e (digits-lt hj hi)), ← k .0, ← k .1) fits
+    go (no n) = rw (getD-set-other l (j * t + i) (v * t + u) p 0 n) old
+
+-- ---- one more line
+
+after-start : (st : Standing) (h : Head) → NoFault st (Start h) → Sound (standsAfter st (Start h))
+unfolding standsAfter GoodShapes Disjoint
+after-start st h g =
+    record {
+      start = not-before;
+      headed = λ n. record { range = g .range; agreement = unless-none (agrees h) 5 0 (lit< tt) (g .own) .0 };
+      few = lit≤ tt;
+      good = tt;
+      apart = tt;
+      sized = length-replicate (tileCount h) 0;
+      unfilled = λ e. refl;
+      fillable = λ i j hi hj. omega (arith, getD-zeros (tileCount h) (tileIndex h i j));
+    }
+
+after-shape : (st : Standing) (r : Rect) → Sound st → NoFault st (Shape r) → Sound (standsAfter st (Shape r))
+unfolding standsAfter
+after-shape st r s g =
+    record {
+      start = not-before;
+      headed = λ n. s .headed (after-head (st .turn) (Shape r) (g .turn) (λ h e. let z : _≡_ {A = ℕ} 0 1 = cc in omega arith));
+      few = omega (arith, length-append (st .shapes) (r ∷ []), k .room);
+      good = good-more (st .head) (st .shapes) r (s .good) (g .range) (k .fits);
+      apart = disjoint-more (st .shapes) r (s .apart) (shares-none (st .shapes) r (le-ltb 0 (coveredArea (st .shapes) r) (omega (arith, k .free))));
+      sized = s .sized;
+      unfilled = λ e. none;
+      fillable = λ i j hi hj. omega (arith, ap (λ (l : List ℕ). getD l (tileIndex (st .head) i j) 0) none, getD-zeros (tileCount (st .head)) (tileIndex (st .head) i j));
+    }
+  where
+    k : NoShapeFault st r
+    k = no-shape-fault st r (g .own)
+
+    none : st .amounts ≡ replicate (tileCount (st .head)) 0
+    none = s .unfilled (shape-turn (st .turn) r (g .turn))
+
+after-fill : (st : Standing) (i j p : ℕ) → Sound st → NoFault st (Fill i j p) → Sound (standsAfter st (Fill i j p))
+unfolding standsAfter
+after-fill st i j p s g =
+    record {
+      start = λ e. let z : _≡_ {A = ℕ} 0 1 = cc in absurd (omega arith);
+      headed = λ n. s .headed (after-head (st .turn) (Fill i j p) (g .turn) (λ h e. let z : _≡_ {A = ℕ} 0 1 = cc in omega arith));
+      few = s .few;
+      good = s .good;
+      apart = s .apart;
+      sized = length-set (st .amounts) (tileIndex (st .head) i j) p ∙ s .sized;
+      unfilled = λ e. let z : _≡_ {A = ℕ} 0 1 = cc in absurd (omega arith);
+      fillable = λ u v hu hv.
+          amount-set (tilesAcross (st .head)) (st .amounts) i j p u v (λ a b. fillableArea (st .head .gap) (st .shapes) (tile (tileSide (st .head)) a b))
+          (s .sized) (k .column) (k .row) hu hv (k .fits) (s .fillable u v hu hv);
+    }
+  where
+    k : NoFillFault st i j p
+    k = no-fill-fault st i j p (g .own)
+
+after-end : (st : Standing) → Sound st → NoFault st End → Sound (standsAfter st End)
+unfolding standsAfter
+after-end st s g =
+    record {
+      start = λ e. let z : _≡_ {A = ℕ} 0 1 = cc in absurd (omega arith);
+      headed = λ n. s .headed (after-head (st .turn) End (g .turn) (λ h e. let z : _≡_ {A = ℕ} 0 1 = cc in omega arith));
+      few = s .few;
+      good = s .good;
+      apart = s .apart;
+      sized = s .sized;
+      unfilled = λ e. let z : _≡_ {A = ℕ} 0 1 = cc in absurd (omega arith);
+      fillable = s .fillable;
+    }
+
+sound-next : (st : Standing) (f : Form) → Sound st → NoFault st f → Sound (standsAfter st f)
+sound-next st Unknown s g = absurd (false≢true (g .spelled))
+sound-next st (Start h) s g = after-start st h g
+sound-next st (Shape r) s g = after-shape st r s g
+sound-next st (Fill i j p) s g = after-fill st i j p s g
+sound-next st End s g = after-end st s g
+
+pub sound-after : (st : Standing) (f : Form) → Sound st → lineFault st f ≡ 0 → Sound (standsAfter st f)
+sound-after st f s e = sound-next st f s (no-fault st f e)
+
+pub sound-nothing : Sound nothing
+unfolding GoodShapes Disjoint
+sound-nothing =
+    record {
+      start = λ e. refl;
+      headed = λ n. absurd (n refl);
+      few = lit≤ tt;
+      good = tt;
+      apart = tt;
+      sized = refl;
+      unfilled = λ e. let z : _≡_ {A = ℕ} 0 1 = cc in absurd (omega arith);
+      fillable = λ i j hi hj. omega arith;
+    }

@@ -1,0 +1,139 @@
+-- Tables of rectangles, four numbers each: one more at the end, and back to the list of rectangles.
+use Prim.Native.Nat.{ℕ, zero, suc, _+_, _*_, _-_, _≤_}
+use mathlib.Core.Path.{_≡_, refl, sym, ap, _∙_}
+use mathlib.Core.Bool.{true, _&&_}
+use mathlib.Core.List.{List, [], _∷_, _++_}
+use native.Mathlib.Omega.{arith}
+use native.Mathlib.Numerals.{add-one, add-two, add-three}
+use native.Mathlib.Nat.{le-trans}
+use lib.Dec.{lit≤}
+use lib.ListN.{length, getD, take, drop, replicate, length-append}
+use lib.Seq.{take-at, drop-at, drop-drop, sets-eq, length-sets, length-take-le}
+use Rattle.geometry.specs.declared.Rect.{Rect}
+use Rattle.geometry.specs.Layout.{rectsOf, Disjoint, Drawn}
+use Rattle.geometry.proofs.Tables.{rects-more}
+use Rattle.spelling.proofs.Numerals.{both}
+use Rattle.jobfile.specs.declared.Head.{Head}
+use Rattle.jobfile.specs.Limits.{mostSide}
+use Rattle.jobfile.specs.Forms.{within, rectInRange}
+use Rattle.jobfile.specs.File.{tableOf}
+use Rattle.jobfile.specs.Held.{GoodShapes, withShape}
+use Rattle.jobfile.proofs.Heads.{between}
+
+abbrev pub fourOf : Rect → List ℕ
+fourOf r = r .x1 ∷ r .y1 ∷ r .x2 ∷ r .y2 ∷ []
+
+-- ---- a table of n rectangles
+
+-- the first of four numbers off: one rectangle less
+fewer : (m n : ℕ) → suc (suc (suc (suc m))) ≡ 4 * suc n → m ≡ 4 * n
+fewer m n e = omega arith
+
+pub table-of-rects : (n : ℕ) (t : List ℕ) → length t ≡ 4 * n → tableOf (rectsOf t) ≡ t
+unfolding rectsOf tableOf
+table-of-rects n [] e = refl
+table-of-rects n (a ∷ []) e = absurd (omega arith)
+table-of-rects n (a ∷ b ∷ []) e = absurd (omega arith)
+table-of-rects n (a ∷ b ∷ c ∷ []) e = absurd (omega arith)
+table-of-rects zero (a ∷ b ∷ c ∷ d ∷ t) e = absurd (omega arith)
+table-of-rects (suc n) (a ∷ b ∷ c ∷ d ∷ t) e =
+    ap (λ (s : List ℕ). a ∷ b ∷ c ∷ d ∷ s) (table-of-rects n t (fewer (length t) n e))
+
+pub length-table : (rs : List Rect) → length (tableOf rs) ≡ 4 * length rs
+unfolding tableOf
+length-table [] = refl
+length-table (r ∷ rs) = omega (arith, length-table rs)
+
+pub rects-of-table : (rs : List Rect) → rectsOf (tableOf rs) ≡ rs
+unfolding rectsOf tableOf
+rects-of-table [] = refl
+rects-of-table (r ∷ rs) = ap (λ (qs : List Rect). r ∷ qs) (rects-of-table rs)
+
+-- ---- a table with room behind its rectangles
+
+module _ (l : List ℕ) (c : ℕ) (r : Rect) (h : 4 * c + 4 ≤ length l) where
+  next : 4 * suc c ≡ 4 * c + 4
+  next = omega arith
+
+  split : withShape l c r ≡ take (4 * c) l ++ fourOf r ++ drop (4 * suc c) l
+  split = rw (next, add-one, add-two, add-three) (sets-eq (fourOf r) l (4 * c) h)
+
+  front : length (take (4 * c) l ++ fourOf r) ≡ 4 * suc c
+  front = omega (arith, length-append (take (4 * c) l) (fourOf r), length-take-le (4 * c) l (omega arith))
+
+  pub stored-rects : rectsOf (take (4 * suc c) (withShape l c r)) ≡ rectsOf (take (4 * c) l) ++ (r ∷ [])
+  stored-rects =
+      ap rectsOf (ap (take (4 * suc c)) split ∙ take-at (take (4 * c) l ++ fourOf r) (drop (4 * suc c) l) (4 * suc c) front)
+      ∙ rects-more c (take (4 * c) l) (r .x1) (r .y1) (r .x2) (r .y2) (length-take-le (4 * c) l (omega arith))
+
+  pub stored-behind : drop (4 * suc c) (withShape l c r) ≡ drop (4 * suc c) l
+  stored-behind = ap (drop (4 * suc c)) split ∙ drop-at (take (4 * c) l ++ fourOf r) (drop (4 * suc c) l) (4 * suc c) front
+
+  pub stored-length : length (withShape l c r) ≡ length l
+  stored-length = rw (add-one, add-two, add-three) (length-sets l (4 * c) (fourOf r))
+
+-- ---- zeros
+
+abbrev pub zeros : ℕ → List ℕ
+zeros n = replicate n 0
+
+pub drop-zeros : (n k : ℕ) → drop n (zeros k) ≡ zeros (k - n)
+drop-zeros zero k = let e : k ≡ k - 0 = omega arith in ap zeros e
+drop-zeros (suc n) zero = let e : 0 ≡ 0 - suc n = omega arith in ap zeros e
+drop-zeros (suc n) (suc k) = let e : k - n ≡ suc k - suc n = omega arith in drop-zeros n k ∙ ap zeros e
+
+pub take-zeros : (n k : ℕ) → n ≤ k → take n (zeros k) ≡ zeros n
+take-zeros zero k h = refl
+take-zeros (suc n) zero h = absurd (omega arith)
+take-zeros (suc n) (suc k) h = ap (λ (s : List ℕ). 0 ∷ s) (take-zeros n k (omega arith))
+
+pub getD-zeros : (n k : ℕ) → getD (zeros n) k 0 ≡ 0
+getD-zeros zero k = refl
+getD-zeros (suc n) zero = refl
+getD-zeros (suc n) (suc k) = getD-zeros n k
+
+-- zeros from a place are zeros from a later one
+pub zeros-later : (l : List ℕ) (m n k : ℕ) → drop m l ≡ zeros k → drop (m + n) l ≡ zeros (k - n)
+zeros-later l m n k e = sym (drop-drop n m l) ∙ ap (drop n) e ∙ drop-zeros n k
+
+-- ---- ranges
+
+-- the corners of a rectangle in range
+pub corners : (r : Rect) → rectInRange r ≡ true → (r .x1 ≤ mostSide) × (r .y1 ≤ mostSide) × (r .x2 ≤ mostSide) × (r .y2 ≤ mostSide)
+corners r e =
+    (between 0 mostSide (r .x1) (a .0) .most, between 0 mostSide (r .y1) (a .1) .most, between 0 mostSide (r .x2) (b .0) .most, between 0 mostSide (r .y2) (b .1) .most)
+  where
+    ends : ((within 0 mostSide (r .x1) && within 0 mostSide (r .y1)) ≡ true) × ((within 0 mostSide (r .x2) && within 0 mostSide (r .y2)) ≡ true)
+    ends = both (within 0 mostSide (r .x1) && within 0 mostSide (r .y1)) (within 0 mostSide (r .x2) && within 0 mostSide (r .y2)) e
+
+    a : (within 0 mostSide (r .x1) ≡ true) × (within 0 mostSide (r .y1) ≡ true)
+    a = both (within 0 mostSide (r .x1)) (within 0 mostSide (r .y1)) (ends .0)
+
+    b : (within 0 mostSide (r .x2) ≡ true) × (within 0 mostSide (r .y2) ≡ true)
+    b = both (within 0 mostSide (r .x2)) (within 0 mostSide (r .y2)) (ends .1)
+
+-- every number of a table of good rectangles is at most 65,535
+pub table-small : (h : Head) (rs : List Rect) → GoodShapes h rs → (i : ℕ) → getD (tableOf rs) i 0 ≤ mostSide
+unfolding tableOf GoodShapes
+table-small h [] g i = lit≤ tt
+table-small h (r ∷ rs) g zero = corners r (g .0) .0
+table-small h (r ∷ rs) g (suc zero) = corners r (g .0) .1
+table-small h (r ∷ rs) g (suc (suc zero)) = corners r (g .0) .2
+table-small h (r ∷ rs) g (suc (suc (suc zero))) = corners r (g .0) .3
+table-small h (r ∷ rs) g (suc (suc (suc (suc i)))) = table-small h rs (g .2) i
+
+-- the rectangles so far are a drawn table
+pub drawn-so-far : (h : Head) (l : List ℕ) (c : ℕ) → 4 * c ≤ 1024 → length l ≡ 1024 → GoodShapes h (rectsOf (take (4 * c) l)) →
+    Disjoint (rectsOf (take (4 * c) l)) → Drawn (take (4 * c) l)
+drawn-so-far h l c n e g d =
+    record {
+      few = omega (arith, whole);
+      small = λ i. le-trans (rw table at (table-small h (rectsOf (take (4 * c) l)) g i)) (lit≤ tt);
+      apart = d;
+    }
+  where
+    whole : length (take (4 * c) l) ≡ 4 * c
+    whole = length-take-le (4 * c) l (omega arith)
+
+    table : tableOf (rectsOf (take (4 * c) l)) ≡ take (4 * c) l
+    table = table-of-rects c (take (4 * c) l) whole

@@ -1,0 +1,10 @@
+-- `jobfile::faults::fits_layout` meets its contract. What `both` ensures, at what its calls ensure. Assumes nothing.
+use borrow.Author.Needs.{needs}
+use Rattle.jobfile.proofs.Tests.{and-same}
+use Rattle.jobfile.proofs.faults.fits_layout.Statement.{statement}
+use Rattle.jobfile.proofs.faults.fits_layout.Tie as tie
+
+pub fits-layout-spec : {M : Type 1} → statement M
+fits-layout-spec =
+    tie.close
+    (tie.spec (λ c κs. search needs) (λ c κs. search needs) (λ c κs. search needs) (λ c. search and-same))

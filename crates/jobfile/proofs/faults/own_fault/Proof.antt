@@ -1,0 +1,17 @@
+-- `jobfile::faults::own_fault` meets its contract. Each arm is given that the form is the one matched. Assumes nothing.
+use borrow.Author.Needs.{needs}
+use denote.Ref.{now}
+use Rattle.jobfile.proofs.Faulting.{ready, fill-headed, own-unknown, own-start, own-shape, own-fill, own-end}
+use Rattle.jobfile.proofs.faults.own_fault.Statement.{statement}
+use Rattle.jobfile.proofs.faults.own_fault.Tie as tie
+
+pub own-fault-spec : {M : Type 1} → statement M
+own-fault-spec =
+    tie.close
+    (tie.spec (λ c. search needs) (λ c. search needs) (λ c κs. search needs) (λ c. search needs)
+    (λ c κs.
+    let start = c .before .before .before .before .before in
+    let k = ready (start .args .s) (now (start .args .rects)) (now (start .args .amounts)) (start .pre .0) in
+    (k .within, k .drawn))
+    (λ c. search needs) (λ c κs. (c .before .before .before .before .before .pre .0, search fill-headed)) (λ c. search needs)
+    (λ c. search own-unknown) (λ c. search own-start) (λ c. search own-shape) (λ c. search own-fill) (λ c. search own-end))

@@ -1,0 +1,44 @@
+-- `jobfile::faults::tile_room` meets its contract: the box is the tile's, and the rectangles are those that stand. Assumes nothing.
+use Prim.Native.Nat.{ℕ, _*_}
+use mathlib.Core.Path.{_≡_, sym, ap, _∙_}
+use borrow.Author.Needs.{needs}
+use denote.Ref.{now}
+use lib.ListN.{take}
+use lib.Seq.{length-take-le}
+use Rattle.geometry.specs.Layout.{rectsOf}
+use Rattle.fill.specs.Eligible.{tile, fillableArea}
+use Rattle.jobfile.specs.Forms.{tileSide}
+use Rattle.jobfile.proofs.Faulting.{tile-corners, tile-small}
+use Rattle.jobfile.proofs.faults.tile_room.Statement.{statement}
+use Rattle.jobfile.proofs.faults.tile_room.Tie as tie
+
+tile-box-requires : tie.Need-tile-box-requires
+tile-box-requires c κs =
+    let start = c .before .before .before in
+    let here = start .pre .1 .1 .1 in
+    tile-corners (start .args .s .head) _ _ _ (start .pre .1 .1 .0) (here .0) (here .1) (c .tile-side .ensures)
+
+-- the box is the tile
+box : (c : tie.After-tile-box) →
+    let start = c .before .before .before .before in
+    c .tile-box .result ≡ tile (tileSide (start .args .s .head)) (start .args .i) (start .args .j)
+box c =
+    let start = c .before .before .before .before in
+    c .tile-box .ensures ∙ ap (λ (d : ℕ). tile d (start .args .i) (start .args .j)) (c .before .tile-side .ensures)
+
+fillable-requires : tie.Need-fillable-requires
+fillable-requires c κs =
+    let start = c .before .before .before .before .before in
+    let here = start .pre .1 .1 .1 in
+    tile-small (start .args .s) (now (start .args .rects)) _ _ _ (start .pre .1 .0) (start .pre .1 .1 .0) (here .0) (here .1) (box (c .before))
+
+returns : tie.Need-returns
+returns c =
+    let start = c .before .before .before .before .before .before in
+    c .fillable .ensures
+    ∙ ap (fillableArea (start .args .s .head .gap) (rectsOf (take (4 * start .args .s .count) (now (start .args .rects))))) (box (c .before .before))
+
+pub tile-room-spec : {M : Type 1} → statement M
+tile-room-spec =
+    tie.close
+    (tie.spec (λ c. search needs) (λ c κs. search needs) tile-box-requires (λ c. sym (length-take-le _ _ (search needs))) fillable-requires returns)

@@ -1,0 +1,112 @@
+-- How the reader holds what stands: a small state by value and two lent tables; and what is always so of what stands after good lines.
+use Prim.Native.Nat.{ℕ, _+_, _-_, _*_, _≤_, _<_}
+use mathlib.Core.Path.{_≡_}
+use mathlib.Core.Bool.{true, false}
+use mathlib.Core.List.{List, [], _∷_}
+use lib.Dec.{ltb, eqb}
+use lib.ListN.{length, getD, take, drop, set, replicate}
+use Rattle.geometry.specs.declared.Rect.{Rect}
+use Rattle.geometry.specs.Layout.{Disjoint, rectsOf}
+use Rattle.spelling.specs.Text.{lineLength}
+use Rattle.fill.specs.Eligible.{tile, fillableArea}
+use Rattle.jobfile.specs.declared.Head.{Head}
+use Rattle.jobfile.specs.declared.Form.{Form}
+use Rattle.jobfile.specs.declared.Form.the-variants.{Unknown, Start, Shape, Fill, End}
+use Rattle.jobfile.specs.declared.Turn.{Turn}
+use Rattle.jobfile.specs.declared.Turn.the-variants.{Before, Shapes, Fills, Done}
+use Rattle.jobfile.specs.declared.State.{State}
+use Rattle.jobfile.specs.declared.Step.{Step}
+use Rattle.jobfile.specs.declared.Ending.{Ending}
+use Rattle.jobfile.specs.declared.Job.{Job}
+use Rattle.jobfile.specs.Limits.{mostShapes}
+use Rattle.jobfile.specs.Forms.{formOf, headInRange, rectInRange, tileSide, tilesAcross, agrees}
+use Rattle.jobfile.specs.Faults.{Standing, nothing, fitsLayout, tileIndex, lineFault, standsAfter}
+use Rattle.jobfile.specs.File.{refused, asJob}
+
+-- where a form comes in a file; 0 for a line that is none of the spellings
+abbrev pub rankOf : Form → ℕ
+rankOf Unknown = 0
+rankOf (Start h) = 1
+rankOf (Shape r) = 2
+rankOf (Fill i j p) = 3
+rankOf End = 4
+
+-- the number of tiles of a layout
+abbrev pub tileCount : Head → ℕ
+tileCount h = tilesAcross h * tilesAcross h
+
+-- what stands by a state and its tables
+abbrev pub standing : State → (rects amounts : List ℕ) → Standing
+standing s rects amounts =
+    record { turn = s .turn; head = s .head; shapes = rectsOf (take (4 * s .count) rects); amounts = take (tileCount (s .head)) amounts }
+
+-- a head that was good
+pub record GoodHead (h : Head) : Type 0 where
+  pub range : headInRange h ≡ true
+  pub agreement : agrees h ≡ true
+
+-- every rectangle was in range and fits the layout
+unfoldable pub GoodShapes : Head → List Rect → Type 0
+GoodShapes h [] = Unit {0}
+GoodShapes h (r ∷ rs) = (rectInRange r ≡ true) × (fitsLayout h r ≡ true) × GoodShapes h rs
+
+-- what is so after good lines
+pub record Sound (st : Standing) : Type 0 where
+  pub start : st .turn ≡ Before → st ≡ nothing
+  pub headed : (st .turn ≡ Before → ⊥) → GoodHead (st .head)
+  pub few : length (st .shapes) ≤ mostShapes
+  pub good : GoodShapes (st .head) (st .shapes)
+  pub apart : Disjoint (st .shapes)
+  pub sized : length (st .amounts) ≡ tileCount (st .head)
+  pub unfilled : st .turn ≡ Shapes → st .amounts ≡ replicate (tileCount (st .head)) 0
+  pub fillable : (i j : ℕ) → i < tilesAcross (st .head) → j < tilesAcross (st .head) →
+      getD (st .amounts) (tileIndex (st .head) i j) 0 ≤ fillableArea (st .head .gap) (st .shapes) (tile (tileSide (st .head)) i j)
+
+-- a state and its tables hold what stands: 0 behind the rectangles and behind the amounts
+pub record Held (s : State) (rects amounts : List ℕ) : Type 0 where
+  pub room : length rects ≡ 1024
+  pub cells : length amounts ≡ 4096
+  pub count : s .count ≤ mostShapes
+  pub tiles : tileCount (s .head) ≤ 4096
+  pub behind : drop (4 * s .count) rects ≡ replicate (1024 - 4 * s .count) 0
+  pub beyond : drop (tileCount (s .head)) amounts ≡ replicate (4096 - tileCount (s .head)) 0
+  pub sound : Sound (standing s rects amounts)
+
+-- a table with the four numbers of a rectangle stored behind n rectangles
+abbrev pub withShape : List ℕ → ℕ → Rect → List ℕ
+withShape l n r = set (set (set (set l (4 * n) (r .x1)) (4 * n + 1) (r .y1)) (4 * n + 2) (r .x2)) (4 * n + 3) (r .y2)
+
+-- a good line was entered
+pub record Entered (s : State) (rects amounts : List ℕ) (f : Form) (s′ : State) (rects′ amounts′ : List ℕ) : Type 0 where
+  pub stands : standing s′ rects′ amounts′ ≡ standsAfter (standing s rects amounts) f
+  pub held : Held s′ rects′ amounts′
+
+-- the first line of what is left of a file
+abbrev pub firstLine : List ℕ → List ℕ
+firstLine rest = take (lineLength rest) rest
+
+-- its fault: 2 where it has no line feed
+abbrev pub firstFault : Standing → List ℕ → ℕ
+firstFault st rest = elim (ltb (lineLength rest) (length rest)) [ true ↦ lineFault st (formOf (firstLine rest)) | false ↦ 2 ]
+
+-- the first line of what is left was read, and entered where it is good
+pub record LineRead (rest : List ℕ) (s : State) (rects amounts : List ℕ) (r : Step) (rects′ amounts′ : List ℕ) : Type 0 where
+  pub fault : r .fault ≡ firstFault (standing s rects amounts) rest
+  pub used : r .used ≡ lineLength rest + 1
+  pub good : r .fault ≡ 0 → Entered s rects amounts (formOf (firstLine rest)) (r .state) rects′ amounts′
+  pub bad : (r .fault ≡ 0 → ⊥) → (r .state ≡ s) × (rects′ ≡ rects) × (amounts′ ≡ amounts)
+
+-- the fault after the last line: 12 where no (end) was read
+abbrev pub endFault : Turn → ℕ
+endFault Before = 12
+endFault Shapes = 12
+endFault Fills = 12
+endFault Done = 0
+
+-- the job of an ending and its tables, which count only where no fault was found
+unfoldable pub jobOf : Ending → (rects amounts : List ℕ) → Job
+jobOf e rects amounts =
+    elim (eqb (e .fault) 0) [
+      | true ↦ record { fault = 0; line = 0; head = e .state .head; count = e .state .count; rects = rects; amounts = amounts }
+      | false ↦ asJob (refused (e .fault) (e .line))
+    ]

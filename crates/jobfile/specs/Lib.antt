@@ -1,0 +1,5 @@
+pub mod Limits
+pub mod Forms
+pub mod Faults
+pub mod File
+pub mod Held

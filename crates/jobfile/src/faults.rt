@@ -1,0 +1,187 @@
+// The faults of one line, by what already stands.
+use crate::Form;
+use crate::Head;
+use crate::State;
+use crate::Turn;
+use crate::forms::both;
+use crate::forms::head_agrees;
+use crate::forms::in_range;
+use crate::forms::tile_side;
+use crate::forms::tiles_across;
+use crate::held::tile_place;
+use crate::limits::MOST_SHAPES;
+use fill::fillable;
+use geometry::Rect;
+use geometry::shares_square;
+ghost use mathlib.Core.Path.{_≡_};
+ghost use mathlib.Core.Bool.{true};
+ghost use mathlib.Core.List.{[]};
+ghost use Prim.Native.Nat.{_+_, _*_, _≤_, _<_};
+ghost use lib.ListN.{length, take};
+ghost use Rattle.geometry.specs.Layout.{rectsOf, Drawn};
+ghost use Rattle.fill.specs.Eligible.{tile, fillableArea};
+ghost use Rattle.jobfile.specs.Forms.{tileSide, tilesAcross, agrees};
+ghost use Rattle.jobfile.specs.Faults.{inTurn, known, unless, fitsLayout, shapeFault, fillFault, ownFault, lineFault};
+ghost use Rattle.jobfile.specs.Held.{rankOf, standing, GoodHead, Held};
+
+// Where a form comes in a file: the head, rectangles, fills, the end; 0 for a
+// line that is none of the spellings.
+fn rank(f: Form) -> u64
+    ensures { λ r. ⌜ r ≡ rankOf f ⌝ }
+{
+    match f {
+        Form::Unknown => 0,
+        Form::Start(_) => 1,
+        Form::Shape(_) => 2,
+        Form::Fill {
+            column: _,
+            row: _,
+            amount: _,
+        } => 3,
+        Form::End => 4,
+    }
+}
+
+fn is_known(f: Form) -> bool
+    ensures { λ r. ⌜ r ≡ known f ⌝ }
+{
+    0 < rank(f)
+}
+
+// Whether a form comes in turn.
+fn in_turn(t: Turn, f: Form) -> bool
+    ensures { λ r. ⌜ r ≡ inTurn t f ⌝ }
+{
+    let n = rank(f);
+    match t {
+        Turn::Before => n == 1,
+        Turn::Shapes => 2 <= n,
+        Turn::Fills => 3 <= n,
+        Turn::Done => false,
+    }
+}
+
+// A rectangle has its corners in order and lies in the layout.
+fn fits_layout(h: Head, r: Rect) -> bool
+    ensures { λ t. ⌜ t ≡ fitsLayout h r ⌝ }
+{
+    let ordered = both(r.x1 < r.x2, r.y1 < r.y2);
+    let inside = both(r.x2 <= h.size, r.y2 <= h.size);
+    both(ordered, inside)
+}
+
+// The faults of a rectangle; the amounts play no part in them.
+fn shape_fault(s: State, rects: &[u64], r: Rect) -> u64
+    requires { ⌜ 4 * s .count ≤ length (now rects) ⌝ }
+    requires { ⌜ Drawn (take (4 * s .count) (now rects)) ⌝ }
+    ensures { λ n. ⌜ n ≡ shapeFault (standing s (now (rects .entry)) []) r ⌝ }
+{
+    let count = s.count;
+    if !fits_layout(s.head, r) {
+        return 6;
+    }
+    if MOST_SHAPES <= count {
+        return 8;
+    }
+    let end = 4 * count;
+    if shares_square(&rects[..end], r) {
+        return 9;
+    }
+    0
+}
+
+// Tile (i, j) of side d.
+fn tile_box(d: u64, i: u64, j: u64) -> Rect
+    requires { ⌜ ((i + 1) * d ≤ 65535) × ((j + 1) * d ≤ 65535) ⌝ }
+    requires { ⌜ (i < 65535) × (j < 65535) ⌝ }
+    ensures { λ r. ⌜ r ≡ tile d i j ⌝ }
+{
+    Rect {
+        x1: i * d,
+        y1: j * d,
+        x2: (i + 1) * d,
+        y2: (j + 1) * d,
+    }
+}
+
+// The fillable area of tile (i, j).
+fn tile_room(s: State, rects: &[u64], i: u64, j: u64) -> u64
+    requires { ⌜ 4 * s .count ≤ length (now rects) ⌝ }
+    requires { ⌜ Drawn (take (4 * s .count) (now rects)) ⌝ }
+    requires { ⌜ GoodHead (s .head) ⌝ }
+    requires { ⌜ (i < tilesAcross (s .head)) × (j < tilesAcross (s .head)) ⌝ }
+    ensures { λ r. ⌜ r ≡ fillableArea (s .head .gap) (rectsOf (take (4 * s .count) (now (rects .entry)))) (tile (tileSide (s .head)) i j) ⌝ }
+{
+    let head = s.head;
+    let count = s.count;
+    let end = 4 * count;
+    let b = tile_box(tile_side(head), i, j);
+    fillable(&rects[..end], head.gap, b)
+}
+
+// The faults of a fill.
+fn fill_fault(s: State, rects: &[u64], amounts: &[u64], i: u64, j: u64, p: u64) -> u64
+    requires { ⌜ Held s (now rects) (now amounts) ⌝ }
+    requires { ⌜ GoodHead (s .head) ⌝ }
+    ensures { λ n. ⌜ n ≡ fillFault (standing s (now (rects .entry)) (now (amounts .entry))) i j p ⌝ }
+{
+    let head = s.head;
+    let tiles = tiles_across(head);
+    if tiles <= i {
+        return 7;
+    }
+    if tiles <= j {
+        return 7;
+    }
+    let at = tile_place(head, i, j);
+    if amounts[at] != 0 {
+        return 10;
+    }
+    if tile_room(s, rects, i, j) < p {
+        return 11;
+    }
+    0
+}
+
+// The faults that a form of its own kind may have.
+fn own_fault(s: State, f: Form, rects: &[u64], amounts: &[u64]) -> u64
+    requires { ⌜ Held s (now rects) (now amounts) ⌝ }
+    requires { ⌜ inTurn (s .turn) f ≡ true ⌝ }
+    ensures { λ n. ⌜ n ≡ ownFault (standing s (now (rects .entry)) (now (amounts .entry))) f ⌝ }
+{
+    match f {
+        Form::Unknown => 2,
+        Form::Start(h) => head_fault(h),
+        Form::Shape(r) => shape_fault(s, rects, r),
+        Form::Fill {
+            column,
+            row,
+            amount,
+        } => fill_fault(s, rects, amounts, column, row, amount),
+        Form::End => 0,
+    }
+}
+
+fn head_fault(h: Head) -> u64
+    ensures { λ n. ⌜ n ≡ unless (agrees h) 5 0 ⌝ }
+{
+    if head_agrees(h) { 0 } else { 5 }
+}
+
+// The lowest number of a fault that a line has, 0 for none.
+pub fn line_fault(s: State, f: Form, rects: &[u64], amounts: &[u64]) -> u64
+    requires { ⌜ Held s (now rects) (now amounts) ⌝ }
+    ensures { λ n. ⌜ n ≡ lineFault (standing s (now (rects .entry)) (now (amounts .entry))) f ⌝ }
+{
+    let turn = s.turn;
+    if !is_known(f) {
+        return 2;
+    }
+    if !in_range(f) {
+        return 3;
+    }
+    if !in_turn(turn, f) {
+        return 4;
+    }
+    own_fault(s, f, rects, amounts)
+}

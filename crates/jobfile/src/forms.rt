@@ -1,0 +1,199 @@
+// The forms of a line: how each is spelled, the ranges of its numbers, whether a head agrees.
+use crate::Form;
+use crate::Head;
+use crate::limits::MOST_ACCURACY;
+use crate::limits::MOST_AMOUNT;
+use crate::limits::MOST_BOUND;
+use crate::limits::MOST_DIGITS;
+use crate::limits::MOST_LEVELS;
+use crate::limits::MOST_SIDE;
+use crate::limits::MOST_TILES;
+use geometry::Rect;
+use spelling::read_as;
+ghost use mathlib.Core.Path.{_≡_};
+ghost use mathlib.Core.Bool.{_&&_};
+ghost use Prim.Native.Nat.{_/_, _%_};
+ghost use lib.Dec.{leb, eqb};
+ghost use Rattle.jobfile.specs.Limits.{mostTiles};
+ghost use Rattle.jobfile.specs.Forms.{startForm, shapeForm, fillForm, formOf, within, headInRange, rectInRange, fillInRange, inRange, tileSide, tilesAcross, agrees};
+
+// The forms of a spelling's numbers.
+fn start_form(v: [u64; 8]) -> Form
+    ensures { λ r. ⌜ r ≡ startForm v ⌝ }
+{
+    Form::Start(Head {
+        size: v[0],
+        window: v[1],
+        cut: v[2],
+        gap: v[3],
+        lower: v[4],
+        upper: v[5],
+        accuracy: v[6],
+        levels: v[7],
+    })
+}
+
+fn shape_form(v: [u64; 8]) -> Form
+    ensures { λ r. ⌜ r ≡ shapeForm v ⌝ }
+{
+    Form::Shape(Rect {
+        x1: v[0],
+        y1: v[1],
+        x2: v[2],
+        y2: v[3],
+    })
+}
+
+fn fill_form(v: [u64; 8]) -> Form
+    ensures { λ r. ⌜ r ≡ fillForm v ⌝ }
+{
+    Form::Fill {
+        column: v[0],
+        row: v[1],
+        amount: v[2],
+    }
+}
+
+// The form that a line spells, without its line feed.
+pub fn form_of(line: &[u8]) -> Form
+    ensures { λ r. ⌜ r ≡ formOf (now (line .entry)) ⌝ }
+{
+    let head = read_as(
+        line,
+        b"(job (size #) (window #) (cut #) (gap #) (bounds # #) (zoom # #))",
+        MOST_DIGITS,
+    );
+    if head.ok {
+        let v = head.values;
+        return start_form(v);
+    }
+    let rect = read_as(line, b"(rect # # # #)", MOST_DIGITS);
+    if rect.ok {
+        let v = rect.values;
+        return shape_form(v);
+    }
+    let fill = read_as(line, b"(fill # # #)", MOST_DIGITS);
+    if fill.ok {
+        let v = fill.values;
+        return fill_form(v);
+    }
+    if read_as(line, b"(end)", MOST_DIGITS).ok {
+        return Form::End;
+    }
+    Form::Unknown
+}
+
+fn in_span(lo: u64, hi: u64, n: u64) -> bool
+    ensures { λ r. ⌜ r ≡ within lo hi n ⌝ }
+{
+    lo <= n && n <= hi
+}
+
+pub fn both(a: bool, b: bool) -> bool
+    ensures { λ r. ⌜ r ≡ (a && b) ⌝ }
+{
+    a && b
+}
+
+fn in_spans(lo: u64, hi: u64, n: u64, low: u64, high: u64, m: u64) -> bool
+    ensures { λ r. ⌜ r ≡ (within lo hi n && within low high m) ⌝ }
+{
+    both(in_span(lo, hi, n), in_span(low, high, m))
+}
+
+fn head_in_range(h: Head) -> bool
+    ensures { λ r. ⌜ r ≡ headInRange h ⌝ }
+{
+    let sides = in_spans(1, MOST_SIDE, h.size, 1, MOST_SIDE, h.window);
+    let tiles = in_spans(1, MOST_TILES, h.cut, 0, MOST_SIDE, h.gap);
+    let bounds = in_spans(0, MOST_BOUND, h.lower, 0, MOST_BOUND, h.upper);
+    let zoom = in_spans(0, MOST_ACCURACY, h.accuracy, 1, MOST_LEVELS, h.levels);
+    both(both(both(sides, tiles), bounds), zoom)
+}
+
+fn rect_in_range(r: Rect) -> bool
+    ensures { λ t. ⌜ t ≡ rectInRange r ⌝ }
+{
+    let lower_left = in_spans(0, MOST_SIDE, r.x1, 0, MOST_SIDE, r.y1);
+    let upper_right = in_spans(0, MOST_SIDE, r.x2, 0, MOST_SIDE, r.y2);
+    both(lower_left, upper_right)
+}
+
+fn fill_in_range(column: u64, row: u64, amount: u64) -> bool
+    ensures { λ r. ⌜ r ≡ fillInRange column row amount ⌝ }
+{
+    let tile = in_spans(0, MOST_TILES - 1, column, 0, MOST_TILES - 1, row);
+    both(tile, in_span(1, MOST_AMOUNT, amount))
+}
+
+pub fn in_range(f: Form) -> bool
+    ensures { λ r. ⌜ r ≡ inRange f ⌝ }
+{
+    match f {
+        Form::Unknown => true,
+        Form::Start(h) => head_in_range(h),
+        Form::Shape(r) => rect_in_range(r),
+        Form::Fill {
+            column,
+            row,
+            amount,
+        } => fill_in_range(column, row, amount),
+        Form::End => true,
+    }
+}
+
+// The quotient, 0 by 0.
+fn quotient(a: u64, b: u64) -> u64
+    ensures { λ r. ⌜ r ≡ a / b ⌝ }
+{
+    if b == 0 {
+        return 0;
+    }
+    a / b
+}
+
+// Whether b divides a; 0 divides 0 alone.
+fn is_multiple(a: u64, b: u64) -> bool
+    ensures { λ r. ⌜ r ≡ eqb (a % b) 0 ⌝ }
+{
+    if b == 0 {
+        return a == 0;
+    }
+    a % b == 0
+}
+
+// The tile side W/R.
+pub fn tile_side(h: Head) -> u64
+    ensures { λ r. ⌜ r ≡ tileSide h ⌝ }
+{
+    quotient(h.window, h.cut)
+}
+
+// N/(W/R), the number of tiles across the layout.
+pub fn tiles_across(h: Head) -> u64
+    ensures { λ r. ⌜ r ≡ tilesAcross h ⌝ }
+{
+    quotient(h.size, tile_side(h))
+}
+
+// R divides W and W/R divides N.
+fn divides(h: Head) -> bool
+    ensures { λ r. ⌜ r ≡ (eqb (h .window % h .cut) 0 && eqb (h .size % tileSide h) 0) ⌝ }
+{
+    let side = tile_side(h);
+    both(is_multiple(h.window, h.cut), is_multiple(h.size, side))
+}
+
+// At most 64 tiles lie across the layout, and L is at most U.
+fn few_tiles(h: Head) -> bool
+    ensures { λ r. ⌜ r ≡ (leb (tilesAcross h) mostTiles && leb (h .lower) (h .upper)) ⌝ }
+{
+    let tiles = tiles_across(h);
+    both(tiles <= MOST_TILES, h.lower <= h.upper)
+}
+
+pub fn head_agrees(h: Head) -> bool
+    ensures { λ r. ⌜ r ≡ agrees h ⌝ }
+{
+    both(both(h.window <= h.size, divides(h)), few_tiles(h))
+}

@@ -1,0 +1,103 @@
+// What stands, held in a state and two lent tables.
+use crate::Form;
+use crate::Head;
+use crate::State;
+use crate::Turn;
+use crate::forms::tiles_across;
+use geometry::Rect;
+ghost use mathlib.Core.Path.{_≡_};
+ghost use Prim.Native.Nat.{_+_, _*_, _≤_, _<_};
+ghost use lib.ListN.{length, set};
+ghost use Rattle.jobfile.specs.Forms.{tilesAcross};
+ghost use Rattle.jobfile.specs.Faults.{noHead, tileIndex, lineFault};
+ghost use Rattle.jobfile.specs.Held.{standing, Held, withShape, Entered};
+
+// Before the head.
+pub fn no_head() -> Head
+    ensures { λ r. ⌜ r ≡ noHead ⌝ }
+{
+    Head {
+        size: 0,
+        window: 0,
+        cut: 0,
+        gap: 0,
+        lower: 0,
+        upper: 0,
+        accuracy: 0,
+        levels: 0,
+    }
+}
+
+// The place of tile (i, j) in the table of amounts.
+pub fn tile_place(h: Head, i: u64, j: u64) -> usize
+    requires { ⌜ (tilesAcross h ≤ 64) × (i < tilesAcross h) × (j < tilesAcross h) ⌝ }
+    ensures { λ r. ⌜ r ≡ tileIndex h i j ⌝ }
+{
+    let tiles = tiles_across(h);
+    (j * tiles + i) as usize
+}
+
+// Stores a rectangle behind those that stand.
+fn store_shape(rects: &mut [u64], count: usize, r: Rect)
+    requires { ⌜ 4 * count + 4 ≤ length (now rects) ⌝ }
+    ensures { λ u. ⌜ now (rects .exit) ≡ withShape (now (rects .entry)) count r ⌝ }
+{
+    let at = 4 * count;
+    rects[at] = r.x1;
+    rects[at + 1] = r.y1;
+    rects[at + 2] = r.x2;
+    rects[at + 3] = r.y2;
+}
+
+// Stores the amount of tile (i, j).
+fn store_amount(amounts: &mut [u64], h: Head, i: u64, j: u64, p: u64)
+    requires { ⌜ (tilesAcross h ≤ 64) × (i < tilesAcross h) × (j < tilesAcross h) ⌝ }
+    requires { ⌜ tileIndex h i j < length (now amounts) ⌝ }
+    ensures { λ u. ⌜ now (amounts .exit) ≡ set (now (amounts .entry)) (tileIndex h i j) p ⌝ }
+{
+    let at = tile_place(h, i, j);
+    amounts[at] = p;
+}
+
+// Enters a good line.
+pub fn enter(s: State, f: Form, rects: &mut [u64], amounts: &mut [u64]) -> State
+    requires { ⌜ Held s (now rects) (now amounts) ⌝ }
+    requires { ⌜ lineFault (standing s (now rects) (now amounts)) f ≡ 0 ⌝ }
+    ensures { λ r. ⌜ Entered s (now (rects .entry)) (now (amounts .entry)) f r (now (rects .exit)) (now (amounts .exit)) ⌝ }
+{
+    let head = s.head;
+    let count = s.count;
+    match f {
+        Form::Unknown => s,
+        Form::Start(h) => State {
+            turn: Turn::Shapes,
+            head: h,
+            count: 0,
+        },
+        Form::Shape(r) => {
+            store_shape(rects, count, r);
+            State {
+                turn: Turn::Shapes,
+                head,
+                count: count + 1,
+            }
+        }
+        Form::Fill {
+            column,
+            row,
+            amount,
+        } => {
+            store_amount(amounts, head, column, row, amount);
+            State {
+                turn: Turn::Fills,
+                head,
+                count,
+            }
+        }
+        Form::End => State {
+            turn: Turn::Done,
+            head,
+            count,
+        },
+    }
+}

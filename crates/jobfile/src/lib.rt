@@ -1,0 +1,105 @@
+// The job file: its forms, its faults and its reader.
+mod faults;
+mod forms;
+mod held;
+mod limits;
+mod reader;
+
+pub use forms::tile_side;
+pub use forms::tiles_across;
+use geometry::Rect;
+use limits::MOST_BYTES;
+use reader::read_lines;
+use reader::refusal;
+ghost use mathlib.Core.Path.{_≡_};
+ghost use Rattle.jobfile.specs.File.{outcomeOf, asJob};
+
+// The numbers of the head, in the order of their spelling.
+pub struct Head {
+    pub size: u64,
+    pub window: u64,
+    pub cut: u64,
+    pub gap: u64,
+    pub lower: u64,
+    pub upper: u64,
+    pub accuracy: u64,
+    pub levels: u64,
+}
+
+// What a line spells. Unknown is a line that is none of the spellings.
+pub enum Form {
+    Unknown,
+    Start(Head),
+    Shape(Rect),
+    Fill { column: u64, row: u64, amount: u64 },
+    End,
+}
+
+// What a file has come to: nothing yet, its rectangles, its fills, its end.
+pub enum Turn {
+    Before,
+    Shapes,
+    Fills,
+    Done,
+}
+
+// A file that was read: number and line of its first fault, both 0 where it has
+// none; then the head, the number of rectangles, their table, four numbers
+// each, and the amounts of the tiles row by row, all 0 after a fault.
+pub struct Job {
+    pub fault: u64,
+    pub line: u64,
+    pub head: Head,
+    pub count: usize,
+    pub rects: [u64; 1024],
+    pub amounts: [u64; 4096],
+}
+
+// What stands while a file is read, beside the two tables.
+struct State {
+    turn: Turn,
+    head: Head,
+    count: usize,
+}
+
+// What reading a line comes to: its fault or 0, its length with its line feed,
+// and what stands then.
+struct Step {
+    fault: u64,
+    used: usize,
+    state: State,
+}
+
+// What reading all lines comes to: number and line of the first fault, both 0
+// where there is none, and what stands then.
+struct Ending {
+    fault: u64,
+    line: u64,
+    state: State,
+}
+
+// Reads a job file.
+pub fn read(file: &[u8]) -> Job
+    ensures { λ r. ⌜ r ≡ asJob (outcomeOf (now (file .entry))) ⌝ }
+{
+    if MOST_BYTES < file.len() {
+        return refusal(1, 0);
+    }
+    let mut rects = [0u64; 1024];
+    let mut amounts = [0u64; 4096];
+    let end = read_lines(file, &mut rects, &mut amounts);
+    let fault = end.fault;
+    if fault != 0 {
+        return refusal(fault, end.line);
+    }
+    let s = end.state;
+    let head = s.head;
+    Job {
+        fault: 0,
+        line: 0,
+        head,
+        count: s.count,
+        rects,
+        amounts,
+    }
+}

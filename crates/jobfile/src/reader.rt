@@ -1,0 +1,106 @@
+// The reader: line by line, each handed the unread part of the file.
+use crate::Ending;
+use crate::Job;
+use crate::State;
+use crate::Step;
+use crate::Turn;
+use crate::faults::line_fault;
+use crate::forms::form_of;
+use crate::held::enter;
+use crate::held::no_head;
+use spelling::first_line;
+ghost use mathlib.Core.Path.{_≡_};
+ghost use lib.ListN.{replicate};
+ghost use Rattle.spelling.specs.Text.{parts};
+ghost use Rattle.jobfile.specs.Faults.{nothing};
+ghost use Rattle.jobfile.specs.File.{refused, readLines, asJob};
+ghost use Rattle.jobfile.specs.Held.{Held, LineRead, endFault, jobOf};
+
+// Reads the first line of what is left of a file.
+fn read_line(rest: &[u8], s: State, rects: &mut [u64], amounts: &mut [u64]) -> Step
+    requires { ⌜ Held s (now rects) (now amounts) ⌝ }
+    ensures { λ r. ⌜ LineRead (now (rest .entry)) s (now (rects .entry)) (now (amounts .entry)) r (now (rects .exit)) (now (amounts .exit)) ⌝ }
+{
+    let n = first_line(rest);
+    if rest.len() <= n {
+        return Step {
+            fault: 2,
+            used: n + 1,
+            state: s,
+        };
+    }
+    let form = form_of(&rest[..n]);
+    let fault = line_fault(s, form, rects, amounts);
+    if fault != 0 {
+        return Step {
+            fault,
+            used: n + 1,
+            state: s,
+        };
+    }
+    let state = enter(s, form, rects, amounts);
+    Step {
+        fault: 0,
+        used: n + 1,
+        state,
+    }
+}
+
+// After the last line: 12 where no (end) was read.
+fn end_fault(turn: Turn) -> u64
+    ensures { λ r. ⌜ r ≡ endFault turn ⌝ }
+{
+    match turn {
+        Turn::Before => 12,
+        Turn::Shapes => 12,
+        Turn::Fills => 12,
+        Turn::Done => 0,
+    }
+}
+
+// Reads all lines of a file into cleared tables.
+pub fn read_lines(file: &[u8], rects: &mut [u64], amounts: &mut [u64]) -> Ending
+    requires { ⌜ (now rects ≡ replicate 1024 0) × (now amounts ≡ replicate 4096 0) ⌝ }
+    ensures { λ e. ⌜ jobOf e (now (rects .exit)) (now (amounts .exit)) ≡ asJob (readLines nothing 1 (parts (now (file .entry)))) ⌝ }
+{
+    let mut s = State {
+        turn: Turn::Before,
+        head: no_head(),
+        count: 0,
+    };
+    let mut line: u64 = 1;
+    let mut at: usize = 0;
+    while at < file.len() {
+        let step = read_line(&file[at..], s, rects, amounts);
+        let fault = step.fault;
+        if fault != 0 {
+            return Ending {
+                fault,
+                line,
+                state: s,
+            };
+        }
+        s = step.state;
+        at += step.used;
+        line += 1;
+    }
+    let turn = s.turn;
+    Ending {
+        fault: end_fault(turn),
+        line,
+        state: s,
+    }
+}
+
+pub fn refusal(number: u64, line: u64) -> Job
+    ensures { λ r. ⌜ r ≡ asJob (refused number line) ⌝ }
+{
+    Job {
+        fault: number,
+        line,
+        head: no_head(),
+        count: 0,
+        rects: [0u64; 1024],
+        amounts: [0u64; 4096],
+    }
+}
