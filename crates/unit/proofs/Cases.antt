@@ -1,0 +1,24 @@
+-- Every row of the paper's cases, and of those from bytes, follows from the definitions: one proof, by computation.
+use mathlib.Core.Path.{_≡_, refl}
+use mathlib.Core.List.{_++_}
+use lib.Count.{trailingZeros}
+use Rattle.geometry.specs.Count.{sum}
+use Rattle.geometry.specs.Layout.{covered}
+use Rattle.geometry.specs.Extreme.{bestInRow, bestInRows}
+use Rattle.geometry.specs.Cases.{foundIn, statedIn}
+use Rattle.extremes.specs.Exact.{extreme}
+use Rattle.zoom.specs.Run.{levelOf, runFrom, quickRun}
+use Rattle.fill.specs.Eligible.{clearOfAll}
+use Rattle.fill.specs.Judge.{failingInRow, failingInRows, standardFailing, marginFailing}
+use Rattle.spelling.specs.Text.{bytes, parts}
+use Rattle.spelling.specs.Decimal.{decimal, decimalIn, digitsOf, pastDigits, valueFrom, sameBytes}
+use Rattle.spelling.specs.Pattern.{spell, readAs}
+use Rattle.jobfile.specs.Forms.{headPattern, rectPattern, fillPattern, endPattern, formOf}
+use Rattle.jobfile.specs.Faults.{shapeFault, fillFault, lineFault, standsAfter}
+use Rattle.jobfile.specs.File.{readLines, outcomeOf}
+use Rattle.unit.specs.Answering.{answerOf, textOf}
+use Rattle.unit.specs.Cases.{paperRows, byteRows}
+
+pub cases : foundIn (paperRows ++ byteRows) ≡ statedIn (paperRows ++ byteRows)
+unfolding sum covered bestInRow bestInRows extreme levelOf runFrom quickRun trailingZeros clearOfAll failingInRow failingInRows standardFailing marginFailing bytes parts decimal decimalIn digitsOf pastDigits valueFrom sameBytes spell readAs headPattern rectPattern fillPattern endPattern formOf shapeFault fillFault lineFault standsAfter readLines outcomeOf answerOf textOf
+cases = refl

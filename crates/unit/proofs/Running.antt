@@ -1,0 +1,62 @@
+-- The phases together make the answer.
+use Prim.Native.Nat.{ℕ, _*_, _≤_}
+use mathlib.Core.Path.{_≡_, refl, ap, subst⁻¹}
+use mathlib.Core.List.{List}
+use native.Mathlib.Nat.{mul-le-mul, le-trans}
+use native.Mathlib.Omega.{arith}
+use lib.ListN.{take}
+use Rattle.geometry.specs.declared.Rect.{Rect}
+use Rattle.geometry.specs.declared.Sense.the-variants.{Greatest}
+use Rattle.geometry.specs.Layout.{rectsOf}
+use Rattle.extremes.specs.declared.Extremes.{Extremes}
+use Rattle.extremes.specs.Exact.{exactRun}
+use Rattle.zoom.specs.declared.Quick.{Quick}
+use Rattle.zoom.specs.Run.{quickRun, density}
+use Rattle.zoom.proofs.Bracket.{quick-run-small}
+use Rattle.fill.specs.declared.Verdict.{Verdict}
+use Rattle.fill.specs.Judge.{verdictOf}
+use Rattle.fill.specs.Limits.{Planned}
+use Rattle.jobfile.specs.declared.Head.{Head}
+use Rattle.jobfile.specs.Forms.{tileSide, tilesAcross}
+use Rattle.unit.specs.declared.run.Answer.{Answer}
+use Rattle.unit.specs.Answering.{answerOf}
+use Rattle.unit.specs.Room.{Ready, standingOf}
+
+module _ (h : Head) (rects amounts : List ℕ) where
+  abbrev quick : Quick
+  quick = quickRun Greatest (rectsOf rects) (h .size) (h .window) (h .accuracy) (h .levels)
+
+  -- what forming the density asks
+  pub bracket-small : Ready h rects amounts → (q : Quick) → q ≡ quick →
+      (1 ≤ h .window) × (h .window ≤ 1048576) × (q .last .window .area ≤ 1099511627776) × (q .last .bound ≤ 1099511627776)
+  bracket-small r q e =
+      let s = quick-run-small Greatest (rectsOf rects) (h .size) (h .window) (h .accuracy) (h .levels) (r .some-window) (r .window-fits) (r .small) in (
+        r .some-window,
+        omega (arith, r .window-fits, r .small),
+        subst⁻¹ (λ (p : Quick). p .last .window .area ≤ 1099511627776) e (s .window),
+        subst⁻¹ (λ (p : Quick). p .last .bound ≤ 1099511627776) e (s .bound),
+      )
+
+  pub answer-is : (x : Extremes) (q : Quick) (d : ℕ) (v : Verdict) (tiles side : ℕ) → x ≡ exactRun (rectsOf rects) (h .size) (h .window) → q ≡ quick →
+      d ≡ density (h .window) (q .last .window .area) (q .last .bound) →
+      v ≡ verdictOf (rectsOf rects) amounts tiles (h .cut) side (h .lower) (h .upper) (h .window) → tiles ≡ tilesAcross h → side ≡ tileSide h →
+      _≡_ {A = Answer} (record { exact = x; quick = q; density = d; verdict = v }) (answerOf (standingOf h rects amounts))
+  unfolding answerOf
+  answer-is x q d v tiles side ex eq ed ev et es = rw (ed, ex, eq, ev, et, es)
+
+  -- what judging the fill asks, at the sides that the code computed
+  pub planned-at : Ready h rects amounts → (tiles side : ℕ) → tiles ≡ tilesAcross h → side ≡ tileSide h →
+      Planned rects amounts tiles (h .cut) side (h .lower) (h .upper) (h .window)
+  planned-at r tiles side et es = rw (et, es) (r .planned)
+
+  -- the same at a number of amounts that the code computed
+  pub ready-at : (k : ℕ) → k ≡ tilesAcross h * tilesAcross h → Ready h rects (take (tilesAcross h * tilesAcross h) amounts) → Ready h rects (take k amounts)
+  ready-at k e r = rw e r
+
+  pub run-at : (k : ℕ) → k ≡ tilesAcross h * tilesAcross h → {a : Answer} → a ≡ answerOf (standingOf h rects (take k amounts)) →
+      a ≡ answerOf (standingOf h rects (take (tilesAcross h * tilesAcross h) amounts))
+  run-at k e p = rw e at p
+
+-- at most 4,096 tiles
+pub tiles-few : (t : ℕ) → t ≤ 64 → t * t ≤ 4096
+tiles-few t h = mul-le-mul {n₂ = 64} {m₂ = 64} h h

@@ -1,0 +1,70 @@
+// From a file's bytes to the text of its answer.
+use crate::run::run;
+use crate::text::write_answer;
+use jobfile::Head;
+use jobfile::Job;
+ghost use Prim.Native.Nat.{_*_, _≤_};
+ghost use mathlib.Core.Path.{_≡_};
+ghost use lib.ListN.{length};
+ghost use Rattle.jobfile.specs.Forms.{tilesAcross};
+ghost use Rattle.jobfile.specs.File.{outcomeOf};
+ghost use Rattle.unit.specs.Answering.{answerOf, textOf};
+ghost use Rattle.unit.specs.Room.{WrittenIn, jobStanding, Readable, Rendering};
+
+// The longest answer: 20 digits to each number.
+pub const TEXT: usize = 464;
+
+// What rendering a file gives: number and line of its fault, or the length of
+// its answer.
+pub struct Rendered {
+    pub fault: u64,
+    pub line: u64,
+    pub length: usize,
+}
+
+// The number of tiles of a layout.
+pub fn tile_count(head: Head) -> usize
+    requires { ⌜ tilesAcross head ≤ 64 ⌝ }
+    ensures { λ r. ⌜ r ≡ tilesAcross head * tilesAcross head ⌝ }
+{
+    let across = jobfile::tiles_across(head);
+    (across * across) as usize
+}
+
+// Writes the answer to a job at the front of a buffer.
+fn render_job(job: Job, text: &mut [u8]) -> usize
+    requires { ⌜ Readable job ⌝ }
+    requires { ⌜ 464 ≤ length (now text) ⌝ }
+    ensures { λ r. ⌜ WrittenIn 464 (now (text .entry)) 0 (textOf (answerOf (jobStanding job))) (now (text .exit)) r ⌝ }
+{
+    let head = job.head;
+    let rects = job.rects;
+    let amounts = job.amounts;
+    let numbers = 4 * job.count;
+    let tiles = tile_count(head);
+    let answer = run(head, &rects[..numbers], &amounts[..tiles]);
+    write_answer(answer, text)
+}
+
+// Reads a file and, where it is accepted, writes its answer at the front of a
+// buffer.
+pub fn render(file: &[u8], text: &mut [u8]) -> Rendered
+    requires { ⌜ 464 ≤ length (now text) ⌝ }
+    ensures { λ r. ⌜ Rendering (outcomeOf (now (file .entry))) (now (text .entry)) (now (text .exit)) r ⌝ }
+{
+    let job = jobfile::read(file);
+    let fault = job.fault;
+    if fault != 0 {
+        return Rendered {
+            fault,
+            line: job.line,
+            length: 0,
+        };
+    }
+    let length = render_job(job, text);
+    Rendered {
+        fault: 0,
+        line: 0,
+        length,
+    }
+}

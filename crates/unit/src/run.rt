@@ -1,0 +1,49 @@
+// The phases of a job in turn.
+use extremes::Extremes;
+use fill::Verdict;
+use jobfile::Head;
+use zoom::Quick;
+ghost use mathlib.Core.Path.{_≡_};
+ghost use Rattle.unit.specs.Answering.{answerOf};
+ghost use Rattle.unit.specs.Room.{Ready, standingOf};
+
+// What an accepted job is answered, before it is written as text.
+pub struct Answer {
+    pub exact: Extremes,
+    pub quick: Quick,
+    pub density: u64,
+    pub verdict: Verdict,
+}
+
+// The answer to a job. The exact run's window is handed to the quick run, so
+// that nothing is searched twice.
+pub fn run(head: Head, rects: &[u64], amounts: &[u64]) -> Answer
+    requires { ⌜ Ready head (now rects) (now amounts) ⌝ }
+    ensures { λ r. ⌜ r ≡ answerOf (standingOf head (now (rects .entry)) (now (amounts .entry))) ⌝ }
+{
+    let size = head.size;
+    let window = head.window;
+    let cut = head.cut;
+    let side = jobfile::tile_side(head);
+    let tiles = jobfile::tiles_across(head);
+    let exact = extremes::exact_run(rects, size, window);
+    let greatest = exact.greatest;
+    let quick = zoom::quick_run(rects, size, window, head.accuracy, head.levels, greatest);
+    let density = zoom::density(window, quick.last.window.area, quick.last.bound);
+    let verdict = fill::judge(
+        rects,
+        amounts,
+        tiles,
+        cut,
+        side,
+        head.lower,
+        head.upper,
+        window,
+    );
+    Answer {
+        exact,
+        quick,
+        density,
+        verdict,
+    }
+}

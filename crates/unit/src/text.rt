@@ -1,0 +1,156 @@
+// The answer's four lines, written by pattern into a lent buffer.
+use crate::run::Answer;
+use extremes::Extremes;
+use fill::Bound;
+use fill::Verdict;
+use zoom::End;
+use zoom::Level;
+use zoom::Quick;
+ghost use Prim.Native.Nat.{_+_, _*_, _≤_};
+ghost use mathlib.Core.List.{_++_};
+ghost use lib.ListN.{length};
+ghost use Rattle.spelling.specs.Pattern.{spell};
+ghost use Rattle.unit.specs.Answering.{exactLine, zoomHead, levelPart, zoomLine, densityLine, boundWord, failingStart, verdictLine, textOf};
+ghost use Rattle.unit.specs.Room.{WrittenIn};
+
+// Writes a pattern's text where there is room for 20 digits to a number, the
+// most that 64 bits take.
+pub fn write_line(pattern: &[u8], values: &[u64], out: &mut [u8], at: usize) -> usize
+    requires { ⌜ at + (length (now pattern) + 20 * length (now values)) ≤ length (now out) ⌝ }
+    ensures { λ r. ⌜ WrittenIn (length (now (pattern .entry)) + 20 * length (now (values .entry))) (now (out .entry)) at (spell (now (pattern .entry)) (now (values .entry))) (now (out .exit)) r ⌝ }
+{
+    spelling::write_as(pattern, values, out, at)
+}
+
+fn write_exact(e: Extremes, out: &mut [u8], at: usize) -> usize
+    requires { ⌜ at + 160 ≤ length (now out) ⌝ }
+    ensures { λ r. ⌜ WrittenIn 160 (now (out .entry)) at (exactLine e) (now (out .exit)) r ⌝ }
+{
+    let values = [
+        e.greatest.area,
+        e.greatest.x,
+        e.greatest.y,
+        e.least.area,
+        e.least.x,
+        e.least.y,
+    ];
+    write_line(b"(exact (max # # #) (min # # #))\n", &values, out, at)
+}
+
+// Writes bytes as they stand.
+pub fn write_word(word: &[u8], out: &mut [u8], at: usize) -> usize
+    requires { ⌜ at + length (now word) ≤ length (now out) ⌝ }
+    ensures { λ r. ⌜ WrittenIn (length (now (word .entry))) (now (out .entry)) at (now (word .entry)) (now (out .exit)) r ⌝ }
+{
+    let none = [0u64; 0];
+    spelling::write_as(word, &none, out, at)
+}
+
+fn write_end(end: End, out: &mut [u8], at: usize) -> usize
+    requires { ⌜ at + 16 ≤ length (now out) ⌝ }
+    ensures { λ r. ⌜ WrittenIn 16 (now (out .entry)) at (zoomHead end) (now (out .exit)) r ⌝ }
+{
+    match end {
+        End::Met => write_word(b"(zoom met", out, at),
+        End::Stopped => write_word(b"(zoom stopped", out, at),
+        End::Exact => write_word(b"(zoom exact", out, at),
+    }
+}
+
+fn write_level(levels: u64, last: Level, out: &mut [u8], at: usize) -> usize
+    requires { ⌜ at + 176 ≤ length (now out) ⌝ }
+    ensures { λ r. ⌜ WrittenIn 176 (now (out .entry)) at (levelPart levels last) (now (out .exit)) r ⌝ }
+{
+    let values = [
+        levels,
+        last.window.area,
+        last.window.x,
+        last.window.y,
+        last.bound,
+        last.kept,
+    ];
+    write_line(
+        b" (levels #) (floor # # #) (ceiling #) (kept #))\n",
+        &values,
+        out,
+        at,
+    )
+}
+
+fn write_quick(q: Quick, out: &mut [u8], at: usize) -> usize
+    requires { ⌜ at + 192 ≤ length (now out) ⌝ }
+    ensures { λ r. ⌜ WrittenIn 192 (now (out .entry)) at (zoomLine q) (now (out .exit)) r ⌝ }
+{
+    let end = q.end;
+    let last = q.last;
+    let next = write_end(end, out, at);
+    write_level(q.levels, last, out, next)
+}
+
+fn write_density(density: u64, out: &mut [u8], at: usize) -> usize
+    requires { ⌜ at + 40 ≤ length (now out) ⌝ }
+    ensures { λ r. ⌜ WrittenIn 40 (now (out .entry)) at (densityLine density) (now (out .exit)) r ⌝ }
+{
+    let values = [density];
+    write_line(b"(density #)\n", &values, out, at)
+}
+
+fn write_bound(b: Bound, out: &mut [u8], at: usize) -> usize
+    requires { ⌜ at + 8 ≤ length (now out) ⌝ }
+    ensures { λ r. ⌜ WrittenIn 8 (now (out .entry)) at (boundWord b) (now (out .exit)) r ⌝ }
+{
+    match b {
+        Bound::Over => write_word(b" over", out, at),
+        Bound::Under => write_word(b" under", out, at),
+    }
+}
+
+fn write_start(b: Bound, column: u64, row: u64, out: &mut [u8], at: usize) -> usize
+    requires { ⌜ at + 56 ≤ length (now out) ⌝ }
+    ensures { λ r. ⌜ WrittenIn 56 (now (out .entry)) at (failingStart b column row) (now (out .exit)) r ⌝ }
+{
+    let next = write_bound(b, out, at);
+    let values = [column, row];
+    write_line(b" # #)\n", &values, out, next)
+}
+
+// Writes a verdict's word and the failing start that it names.
+fn write_failing(word: &[u8], b: Bound, column: u64, row: u64, out: &mut [u8], at: usize) -> usize
+    requires { ⌜ at + (length (now word) + 56) ≤ length (now out) ⌝ }
+    ensures { λ r. ⌜ WrittenIn (length (now (word .entry)) + 56) (now (out .entry)) at (now (word .entry) ++ failingStart b column row) (now (out .exit)) r ⌝ }
+{
+    let next = write_word(word, out, at);
+    write_start(b, column, row, out, next)
+}
+
+fn write_verdict(v: Verdict, out: &mut [u8], at: usize) -> usize
+    requires { ⌜ at + 72 ≤ length (now out) ⌝ }
+    ensures { λ r. ⌜ WrittenIn 72 (now (out .entry)) at (verdictLine v) (now (out .exit)) r ⌝ }
+{
+    match v {
+        Verdict::Safe => write_word(b"(fill safe)\n", out, at),
+        Verdict::Broken(b, column, row) => write_failing(b"(fill broken", b, column, row, out, at),
+        Verdict::Undecided(b, column, row) => write_failing(
+            b"(fill undecided",
+            b,
+            column,
+            row,
+            out,
+            at,
+        ),
+    }
+}
+
+// Writes the four lines.
+pub fn write_answer(a: Answer, out: &mut [u8]) -> usize
+    requires { ⌜ 464 ≤ length (now out) ⌝ }
+    ensures { λ r. ⌜ WrittenIn 464 (now (out .entry)) 0 (textOf a) (now (out .exit)) r ⌝ }
+{
+    let exact = a.exact;
+    let quick = a.quick;
+    let verdict = a.verdict;
+    let first = write_exact(exact, out, 0);
+    let second = write_quick(quick, out, first);
+    let third = write_density(a.density, out, second);
+    write_verdict(verdict, out, third)
+}
