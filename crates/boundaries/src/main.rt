@@ -1,0 +1,38 @@
+// The limits that document 01 asks to be run, one file each, and what the
+// program prints for them.
+use libc::STDOUT_FILENO;
+
+// Prints what the program prints for a file.
+fn show(path: &[u8]) {
+    let opened = os::open_read(path);
+    if opened < 0 {
+        os::fail(path);
+        return;
+    }
+    let mut file = io::large_buffer();
+    let n = io::read_full(opened, &mut file);
+    libc::close(opened);
+    let mut text = [0u8; 464];
+    let length = unit::report(&file[..n], &mut text);
+    io::write_all(STDOUT_FILENO, &text[..length]);
+}
+
+fn main() {
+    show(b"bytes_60000.job");
+    show(b"bytes_60001.job");
+    show(b"rects_256.job");
+    show(b"rects_257.job");
+    show(b"tiles_64.job");
+    show(b"tiles_65.job");
+    show(b"fill_all.job");
+    show(b"fill_one_more.job");
+    show(b"rects_touch.job");
+    show(b"corners_touch.job");
+    show(b"one_square_shared.job");
+    show(b"accuracy_0.job");
+    show(b"accuracy_1000.job");
+    show(b"window_is_layout.job");
+    show(b"empty.job");
+    show(b"no_end.job");
+    show(b"no_line_feed.job");
+}

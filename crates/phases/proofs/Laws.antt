@@ -1,0 +1,43 @@
+-- Each phase gives its number of the answer.
+use Prim.Native.Nat.{ℕ, zero, suc, _≤_}
+use mathlib.Core.Path.{_≡_, refl, sym, ap, _∙_}
+use mathlib.Core.List.{List}
+use Rattle.geometry.specs.Layout.{rectsOf}
+use Rattle.fill.specs.declared.Verdict.{Verdict}
+use Rattle.fill.specs.Judge.{verdictOf}
+use Rattle.jobfile.specs.declared.Head.{Head}
+use Rattle.jobfile.specs.declared.Job.{Job}
+use Rattle.jobfile.specs.Forms.{tileSide, tilesAcross}
+use Rattle.jobfile.specs.File.{Outcome, refused, accepted, outcomeOf, asJob}
+use Rattle.unit.specs.declared.run.Answer.{Answer}
+use Rattle.unit.specs.Answering.{answerOf}
+use Rattle.unit.specs.Room.{standingOf, jobStanding}
+use Rattle.unit.proofs.Accepting.{accepted-standing}
+use Rattle.phases.specs.Phase.{phaseNumber, phaseOf}
+
+pub verdict-at : (h : Head) (rects amounts : List ℕ) (tiles side : ℕ) {v : Verdict} → tiles ≡ tilesAcross h → side ≡ tileSide h →
+    v ≡ verdictOf (rectsOf rects) amounts tiles (h .cut) side (h .lower) (h .upper) (h .window) → v ≡ answerOf (standingOf h rects amounts) .verdict
+unfolding answerOf
+verdict-at h rects amounts tiles side et es e = rw (et, es) at e
+
+pub other-phase : (k : ℕ) (a : Answer) → (k ≡ 1 → ⊥) → (k ≡ 2 → ⊥) → (k ≡ 3 → ⊥) → 0 ≡ phaseNumber k a
+other-phase zero a p q r = refl
+other-phase (suc zero) a p q r = absurd (p refl)
+other-phase (suc (suc zero)) a p q r = absurd (q refl)
+other-phase (suc (suc (suc zero))) a p q r = absurd (r refl)
+other-phase (suc (suc (suc (suc n)))) a p q r = refl
+
+-- a phase that was told by a test
+pub told-phase : (k m : ℕ) (a : Answer) {x : ℕ} → k ≡ m → x ≡ phaseNumber m a → x ≡ phaseNumber k a
+told-phase k m a e p = rw e p
+
+module _ (file : List ℕ) (j : Job) (is : j ≡ asJob (outcomeOf file)) (k : ℕ) where
+  pub refused-phase : (j .fault ≡ 0 → ⊥) → 0 ≡ phaseOf k (outcomeOf file)
+  refused-phase bad = go (outcomeOf file) is
+    where
+      go : (o : Outcome) → j ≡ asJob o → 0 ≡ phaseOf k o
+      go (refused number line) e = refl
+      go (accepted st) e = absurd (bad (ap (λ (i : Job). i .fault) e))
+
+  pub accepted-phase : (good : j .fault ≡ 0) {x : ℕ} → x ≡ phaseNumber k (answerOf (jobStanding j)) → x ≡ phaseOf k (outcomeOf file)
+  accepted-phase good e = let s = accepted-standing file j is good in e ∙ ap (phaseNumber k) (s .2) ∙ sym (ap (phaseOf k) (s .1))

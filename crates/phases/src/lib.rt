@@ -1,0 +1,105 @@
+// The phases of a job by themselves, for the benchmark. Each gives one number of
+// the answer, so that no phase can be left out.
+use fill::Verdict;
+use jobfile::Head;
+use jobfile::Job;
+use unit::tile_count;
+ghost use mathlib.Core.Path.{_≡_};
+ghost use Rattle.jobfile.specs.File.{outcomeOf};
+ghost use Rattle.unit.specs.Answering.{answerOf};
+ghost use Rattle.unit.specs.Room.{Ready, Readable, standingOf, jobStanding};
+ghost use Rattle.phases.specs.Phase.{verdictNumber, phaseNumber, phaseOf};
+
+// The exact run: the greatest area.
+fn greatest_area(head: Head, rects: &[u64], amounts: &[u64]) -> u64
+    requires { ⌜ Ready head (now rects) (now amounts) ⌝ }
+    ensures { λ r. ⌜ r ≡ answerOf (standingOf head (now (rects .entry)) (now (amounts .entry))) .exact .greatest .area ⌝ }
+{
+    let exact = extremes::exact_run(rects, head.size, head.window);
+    exact.greatest.area
+}
+
+// The exact and the quick run: the ceiling.
+fn ceiling(head: Head, rects: &[u64], amounts: &[u64]) -> u64
+    requires { ⌜ Ready head (now rects) (now amounts) ⌝ }
+    ensures { λ r. ⌜ r ≡ answerOf (standingOf head (now (rects .entry)) (now (amounts .entry))) .quick .last .bound ⌝ }
+{
+    let size = head.size;
+    let window = head.window;
+    let exact = extremes::exact_run(rects, size, window);
+    let greatest = exact.greatest;
+    let quick = zoom::quick_run(rects, size, window, head.accuracy, head.levels, greatest);
+    quick.last.bound
+}
+
+fn number_of(v: Verdict) -> u64
+    ensures { λ r. ⌜ r ≡ verdictNumber v ⌝ }
+{
+    match v {
+        Verdict::Safe => 0,
+        Verdict::Broken(_, _, _) => 1,
+        Verdict::Undecided(_, _, _) => 2,
+    }
+}
+
+// The verdict, as a number.
+fn judged_number(head: Head, rects: &[u64], amounts: &[u64]) -> u64
+    requires { ⌜ Ready head (now rects) (now amounts) ⌝ }
+    ensures { λ r. ⌜ r ≡ verdictNumber (answerOf (standingOf head (now (rects .entry)) (now (amounts .entry))) .verdict) ⌝ }
+{
+    let side = jobfile::tile_side(head);
+    let tiles = jobfile::tiles_across(head);
+    let verdict = fill::judge(
+        rects,
+        amounts,
+        tiles,
+        head.cut,
+        side,
+        head.lower,
+        head.upper,
+        head.window,
+    );
+    number_of(verdict)
+}
+
+fn phase_number(phase: u64, head: Head, rects: &[u64], amounts: &[u64]) -> u64
+    requires { ⌜ Ready head (now rects) (now amounts) ⌝ }
+    ensures { λ r. ⌜ r ≡ phaseNumber phase (answerOf (standingOf head (now (rects .entry)) (now (amounts .entry)))) ⌝ }
+{
+    if phase == 1 {
+        return greatest_area(head, rects, amounts);
+    }
+    if phase == 2 {
+        return ceiling(head, rects, amounts);
+    }
+    if phase == 3 {
+        return judged_number(head, rects, amounts);
+    }
+    0
+}
+
+fn job_phase(phase: u64, job: Job) -> u64
+    requires { ⌜ Readable job ⌝ }
+    ensures { λ r. ⌜ r ≡ phaseNumber phase (answerOf (jobStanding job)) ⌝ }
+{
+    let head = job.head;
+    let rects = job.rects;
+    let amounts = job.amounts;
+    let numbers = 4 * job.count;
+    let tiles = tile_count(head);
+    phase_number(phase, head, &rects[..numbers], &amounts[..tiles])
+}
+
+// Reads a file, and runs one phase of an accepted one: 1 the exact run, 2 that
+// and the quick run, 3 the verdict, any other none.
+#[no_mangle]
+pub extern "C" fn density_phase(file: &[u8], phase: u64) -> u64
+    ensures { λ r. ⌜ r ≡ phaseOf phase (outcomeOf (now (file .entry))) ⌝ }
+{
+    let job = jobfile::read(file);
+    let fault = job.fault;
+    if fault != 0 {
+        return 0;
+    }
+    job_phase(phase, job)
+}
