@@ -1,0 +1,92 @@
+//! The proved library through its C entries, beside the second implementation.
+
+pub mod plain;
+
+use reference::answer::Reply;
+
+mod entries {
+    extern "C" {
+        pub fn density_answer(
+            file: *const u8,
+            file_length: usize,
+            out: *mut u8,
+            out_length: usize,
+        ) -> u64;
+        pub fn density_phase(file: *const u8, file_length: usize, phase: u64) -> u64;
+    }
+}
+
+/// What the library's one number is made of: 100000 times the reply's number,
+/// plus its value.
+const NUMBER: u64 = 100_000;
+
+/// The proved unit's answer into a lent buffer.
+pub fn answer(file: &[u8], out: &mut [u8]) -> Reply {
+    // SAFETY: both are slices for the time of the call, and the function has no
+    // condition of its own.
+    let code = unsafe {
+        entries::density_answer(file.as_ptr(), file.len(), out.as_mut_ptr(), out.len())
+    };
+    let (number, value) = (code / NUMBER, code % NUMBER);
+    if number == 0 {
+        Reply::Accepted(value as usize)
+    } else {
+        Reply::Refused {
+            number: number as u32,
+            line: value as u32,
+        }
+    }
+}
+
+/// Reads a job and runs it up to a phase, for the benchmark.
+pub fn phase(file: &[u8], phase: u64) -> u64 {
+    // SAFETY: as for `answer`.
+    unsafe { entries::density_phase(file.as_ptr(), file.len(), phase) }
+}
+
+/// The byte that buffers hold before a call: no answer has it.
+const UNTOUCHED: u8 = 0xa5;
+
+/// Holds both implementations to the same reply and the same bytes, for one
+/// job and one length of buffer.
+fn compare_with_room(file: &[u8], room: usize) -> Reply {
+    let mut proved = vec![UNTOUCHED; room];
+    let mut second = vec![UNTOUCHED; room];
+    let reply = answer(file, &mut proved);
+    let expected = reference::answer::answer(file, &mut second);
+    assert_eq!(reply, expected, "room {room}: {}", shown(file));
+    assert_eq!(proved, second, "room {room}: {}", shown(file));
+    reply
+}
+
+/// The same for buffers of no length, one byte short, exact and longer. The
+/// second implementation writes only the front of an accepted job's buffer, so
+/// equal buffers are untouched everywhere else.
+pub fn compare(file: &[u8]) {
+    match compare_with_room(file, 512) {
+        Reply::Accepted(length) => {
+            for room in [0, length - 1, length, length + 1] {
+                compare_with_room(file, room);
+            }
+        }
+        Reply::Refused { .. } => {
+            compare_with_room(file, 0);
+        }
+    }
+}
+
+/// A file for a message: its first bytes as text.
+fn shown(file: &[u8]) -> String {
+    String::from_utf8_lossy(&file[..file.len().min(2000)]).into_owned()
+}
+
+/// Runs a task on a stack that holds the library's tables: the unit keeps all of
+/// its tables on the stack, and a test's thread has but little of it.
+pub fn on_large_stack(task: impl FnOnce() + Send + 'static) {
+    std::thread::Builder::new()
+        .stack_size(64 << 20)
+        .spawn(task)
+        .expect("a thread")
+        .join()
+        .expect("no difference between the two");
+}

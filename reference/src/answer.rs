@@ -1,0 +1,99 @@
+//! From the bytes of a job to the bytes of its answer.
+
+use crate::job::{Fault, Job, Refusal};
+use crate::outcome::{Outcome, Quick};
+use crate::{brute, fast};
+
+/// Which implementation of the phases to use.
+#[derive(Clone, Copy, Debug, PartialEq, Eq)]
+pub enum Method {
+    /// Square by square, for layouts up to [`brute::LARGEST_SIDE`].
+    Brute,
+    /// For every legal job.
+    Fast,
+}
+
+/// What a caller with an answer buffer gets back.
+#[derive(Clone, Copy, Debug, PartialEq, Eq)]
+pub enum Reply {
+    /// The length of the answer at the front of the buffer.
+    Accepted(usize),
+    /// Number and line of the first fault.
+    Refused { number: u32, line: u32 },
+}
+
+impl From<Refusal> for Reply {
+    fn from(Refusal { number, line }: Refusal) -> Reply {
+        Reply::Refused { number, line }
+    }
+}
+
+impl Method {
+    pub fn read(self, bytes: &[u8]) -> Result<Job, Refusal> {
+        match self {
+            Method::Brute => brute::read(bytes),
+            Method::Fast => fast::read(bytes),
+        }
+    }
+
+    /// All phases on a job that was read.
+    pub fn outcome(self, job: &Job) -> Outcome {
+        let (exact, quick, verdict) = match self {
+            Method::Brute => {
+                let grid = brute::Grid::new(job);
+                let exact = brute::exact_run(job, &grid);
+                let quick = brute::quick_run(job, &grid, exact.max);
+                (exact, quick, brute::verdict(job, &grid))
+            }
+            Method::Fast => {
+                let cover = fast::drawn_cover(job);
+                let exact = fast::exact_run(job, &cover);
+                let quick = fast::quick_run(job, &cover, exact.max);
+                (exact, quick, fast::verdict(job, &cover))
+            }
+        };
+        Outcome {
+            exact,
+            quick,
+            density: density(job, &quick),
+            verdict,
+        }
+    }
+
+    fn text(self, bytes: &[u8]) -> Result<String, Refusal> {
+        let job = self.read(bytes)?;
+        Ok(self.outcome(&job).to_string())
+    }
+}
+
+/// The density in ten-thousandths midway between floor and ceiling.
+fn density(job: &Job, quick: &Quick) -> u64 {
+    10_000 * (quick.floor.area + quick.ceiling) / (2 * job.window * job.window)
+}
+
+/// Answers a job into a lent buffer. Only an accepted job's answer is written,
+/// and nothing behind it.
+pub fn answer(job: &[u8], out: &mut [u8]) -> Reply {
+    answer_by(Method::Fast, job, out)
+}
+
+/// [`answer`] by the named method.
+pub fn answer_by(method: Method, job: &[u8], out: &mut [u8]) -> Reply {
+    let text = match method.text(job) {
+        Ok(text) => text,
+        Err(refusal) => return refusal.into(),
+    };
+    match out.get_mut(..text.len()) {
+        Some(front) => front.copy_from_slice(text.as_bytes()),
+        None => return Refusal::new(Fault::ShortBuffer, 0).into(),
+    }
+    Reply::Accepted(text.len())
+}
+
+/// What the program prints for a job: its answer or its refusal.
+pub fn printed(method: Method, job: &[u8]) -> String {
+    match method.text(job) {
+        Ok(text) => text,
+        Err(Refusal { number, line }) => format!("(refused {number} {line})\n"),
+    }
+}

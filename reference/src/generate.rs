@@ -1,0 +1,30 @@
+//! Jobs on which implementations are compared: random small ones, faulty and
+//! damaged ones, those at the limits, and the heaviest legal ones.
+//!
+//! Everything follows from the seed of a [`Random`], so a failing job can be
+//! made again.
+
+mod boundary;
+mod damage;
+mod faulty;
+mod large;
+mod line;
+mod random;
+mod small;
+
+pub use boundary::{boundary_jobs, BoundaryJob};
+pub use damage::{damage, damaged_job};
+pub use faulty::{faulty_job, job_with_fault, SPOILABLE};
+pub use large::{large_job, large_jobs, LargeJob};
+pub use line::{bytes_of, Line};
+pub use random::Random;
+pub use small::{small_job, small_lines};
+
+/// Any small job: half of them valid, the others faulty or damaged.
+pub fn mixed_job(random: &mut Random) -> Vec<u8> {
+    match random.below(4) {
+        0 => faulty_job(random),
+        1 => damaged_job(random),
+        _ => small_job(random),
+    }
+}

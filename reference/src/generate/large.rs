@@ -1,0 +1,211 @@
+//! The heaviest legal jobs, and random ones of their size.
+
+use super::line::{bytes_of, lines_of, Line};
+use super::random::Random;
+use crate::fast;
+use crate::job::{Job, LARGEST_FILE, LARGEST_SIDE, MOST_RECTS, MOST_TILES};
+
+/// A named job of full size.
+pub struct LargeJob {
+    pub name: &'static str,
+    pub job: Vec<u8>,
+}
+
+/// One job for each way of being heavy.
+pub fn large_jobs() -> Vec<LargeJob> {
+    let named = |name, job: Job| LargeJob {
+        name,
+        job: within_limit(&job),
+    };
+    vec![
+        named("different sides", different_sides()),
+        named("most starts", most_starts()),
+        named("most tiles", most_tiles()),
+        named("wide gaps", wide_gaps()),
+        named("ragged starts", ragged_starts()),
+        named("single squares", single_squares()),
+        named("covered wholly", covered_wholly()),
+        named("filled wholly", filled_wholly()),
+    ]
+}
+
+/// A job without rectangles and fills, bounds that hold always, and the quick
+/// run as long as it gets.
+fn shape(tile: u64, tiles: u64, cut: u64) -> Job {
+    Job {
+        size: tile * tiles,
+        window: tile * cut,
+        cut,
+        upper: 10_000,
+        levels: 6,
+        fills: vec![0; (tiles * tiles) as usize],
+        ..Job::default()
+    }
+}
+
+/// The job's file, its last fills left out as far as it would be too long.
+fn within_limit(job: &Job) -> Vec<u8> {
+    let mut lines = lines_of(job);
+    let mut bytes = bytes_of(&lines);
+    while bytes.len() > LARGEST_FILE {
+        let excess = (bytes.len() - LARGEST_FILE) / 24 + 1;
+        lines.truncate(lines.len() - 1 - excess);
+        lines.push(Line::End);
+        bytes = bytes_of(&lines);
+    }
+    bytes
+}
+
+/// Rectangles in a grid of up to 16 across, no two with a side on one line.
+fn grid_of_different_sides(random: &mut Random, size: u64, across: u64) -> Vec<[u64; 4]> {
+    let cell = size / across;
+    let step = cell / (2 * across);
+    let mut line = |place: u64, slot: u64| place * cell + slot * step + random.below(step);
+    let mut rects = Vec::new();
+    for row in 0..across {
+        for column in 0..across {
+            // Slots scrambled by a prime above `across`, so that all differ but
+            // the sides do not form a staircase.
+            let (down, over) = (row * 19 % across, column * 19 % across);
+            let (x1, y1) = (line(column, down), line(row, over));
+            let (x2, y2) = (line(column, across + down), line(row, across + over));
+            rects.push([x1, y1, x2, y2]);
+        }
+    }
+    rects
+}
+
+/// Every side of 256 rectangles gives candidates of its own to the exact run.
+fn different_sides() -> Job {
+    let mut random = Random::new(1);
+    let mut job = shape(1285, 51, 16);
+    job.gap = 100;
+    job.rects = grid_of_different_sides(&mut random, job.size, 16);
+    job.fills = fast::fillable_areas(&job);
+    job
+}
+
+/// 64 windows across and the window side a multiple of 16: 1009 starts on an
+/// axis at the last level, of which nearly all are kept because the stripes
+/// make windows nearly alike. All sides differ here too.
+fn most_starts() -> Job {
+    let mut job = shape(1008, MOST_TILES, 1);
+    let pitch = job.size / MOST_RECTS as u64;
+    let stripe = |k: u64| {
+        let left = k * pitch + 50 + k % 3;
+        [left, k, left + 100 + k % 2, job.size - k]
+    };
+    job.rects = (0..MOST_RECTS as u64).map(stripe).collect();
+    job
+}
+
+/// 4096 tiles, as many of them filled as the file has room for.
+fn most_tiles() -> Job {
+    let mut random = Random::new(3);
+    let mut job = shape(1023, MOST_TILES, 32);
+    job.gap = 20;
+    job.lower = 1;
+    job.rects = grid_of_different_sides(&mut random, job.size, 10);
+    for rect in &mut job.rects {
+        rect[2] = rect[0] + 500;
+    }
+    let fillable = fast::fillable_areas(&job);
+    job.fills = fillable.into_iter().map(|most| most.min(7)).collect();
+    job
+}
+
+/// Forbidden ground that overlaps much.
+fn wide_gaps() -> Job {
+    let mut random = Random::new(4);
+    let mut job = shape(1023, MOST_TILES, 64);
+    job.gap = 1200;
+    job.rects = grid_of_different_sides(&mut random, job.size, 16);
+    for rect in &mut job.rects {
+        rect[2] = rect[0] + 1 + random.below(300);
+        rect[3] = rect[1] + 1 + random.below(300);
+    }
+    job.fills = fast::fillable_areas(&job);
+    job
+}
+
+/// The last position is a start at no level.
+fn ragged_starts() -> Job {
+    let mut random = Random::new(5);
+    let mut job = shape(1023, MOST_TILES, 48);
+    job.rects = grid_of_different_sides(&mut random, job.size, 16);
+    job.accuracy = 1;
+    job
+}
+
+fn single_squares() -> Job {
+    let mut random = Random::new(6);
+    let mut job = shape(3855, 17, 8);
+    job.rects = grid_of_different_sides(&mut random, job.size, 16);
+    for rect in &mut job.rects {
+        (rect[2], rect[3]) = (rect[0] + 1, rect[1] + 1);
+    }
+    job.fills = fast::fillable_areas(&job);
+    job
+}
+
+fn covered_wholly() -> Job {
+    let mut job = shape(1285, 51, 51);
+    job.rects = vec![[0, 0, LARGEST_SIDE, LARGEST_SIDE]];
+    job.lower = 10_000;
+    job
+}
+
+fn filled_wholly() -> Job {
+    let mut job = shape(LARGEST_SIDE, 1, 1);
+    job.fills = vec![LARGEST_SIDE * LARGEST_SIDE];
+    job
+}
+
+/// A random valid job of large numbers.
+pub fn large_job(random: &mut Random) -> Vec<u8> {
+    let tiles = random.between(1, MOST_TILES);
+    let cut = random.between(1, tiles);
+    let longest = LARGEST_SIDE / tiles;
+    let mut tile = random.between(longest / 2, longest);
+    if random.one_in(2) {
+        tile -= tile % 16;
+    }
+    let mut job = shape(tile, tiles, cut);
+    job.gap = random.pick(&[0, 1, 10, 100, 1000, 20_000]);
+    job.accuracy = random.pick(&[0, 0, 1, 10, 100, 1000]);
+    job.levels = random.between(1, 6);
+    job.lower = random.below(3000);
+    job.upper = random.between(job.lower, 10_000);
+    job.rects = large_rects(random, job.size);
+    let share = random.pick(&[0, 10, 50, 100]);
+    job.fills = fast::fillable_areas(&job);
+    for amount in &mut job.fills {
+        *amount = if random.percent(share) {
+            random.below(*amount + 1)
+        } else {
+            0
+        };
+    }
+    within_limit(&job)
+}
+
+fn large_rects(random: &mut Random, size: u64) -> Vec<[u64; 4]> {
+    let across = random.between(1, 16);
+    let mut rects = match random.below(3) {
+        0 => touching_grid(size, across),
+        _ => grid_of_different_sides(random, size, across),
+    };
+    let share = random.pick(&[10, 60, 100]);
+    rects.retain(|_| random.percent(share));
+    random.shuffle(&mut rects);
+    rects
+}
+
+fn touching_grid(size: u64, across: u64) -> Vec<[u64; 4]> {
+    let line = |k: u64| k * size / across;
+    let cell = |k: u64| {
+        let (column, row) = (k % across, k / across);
+        [line(column), line(row), line(column + 1), line(row + 1)]
+    };
+    (0..across * across).map(cell).collect()
+}

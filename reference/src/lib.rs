@@ -1,0 +1,15 @@
+//! Second implementation of the density unit, written from document 01 alone.
+//!
+//! [`brute`] counts unit squares as the definitions say and serves as the
+//! yardstick on small layouts; [`fast`] takes every legal job. Both share the
+//! reader ([`job`]), the shape of the results ([`outcome`]) and the printing
+//! ([`answer`]). [`generate`] makes the jobs on which implementations are
+//! compared.
+
+pub mod answer;
+pub mod brute;
+pub mod cover;
+pub mod fast;
+pub mod generate;
+pub mod job;
+pub mod outcome;

@@ -1,0 +1,147 @@
+//! Jobs at the limits, and answer buffers at theirs.
+
+mod common;
+
+use common::printed_by_both;
+use reference::answer::{answer, answer_by, printed, Method, Reply};
+use reference::generate::{boundary_jobs, large_job, large_jobs, Random};
+use reference::job::Refusal;
+use reference::{brute, fast};
+
+#[test]
+fn acceptance_and_refusal_at_the_limits() {
+    for case in boundary_jobs() {
+        let result = fast::read(&case.job);
+        assert_eq!(
+            result.as_ref().err(),
+            case.refusal.as_ref(),
+            "{}",
+            case.name
+        );
+        let counted = |job: &reference::job::Job| job.size <= brute::LARGEST_SIDE;
+        if result.is_ok_and(|job| counted(&job)) {
+            printed_by_both(&case.job);
+        }
+    }
+}
+
+#[test]
+fn file_lengths_are_as_named() {
+    let jobs = boundary_jobs();
+    let length = |name: &str| jobs.iter().find(|j| j.name == name).unwrap().job.len();
+    assert_eq!(length("60,000 bytes"), 60_000);
+    assert_eq!(length("60,001 bytes"), 60_001);
+}
+
+#[test]
+fn accuracy_0_and_1000() {
+    let file = |zoom: &str| {
+        format!(
+            "(job (size 8) (window 4) (cut 2) (gap 1) (bounds 0 5000) (zoom {zoom}))\n\
+             (rect 0 0 4 4)\n(rect 4 0 5 2)\n(end)\n"
+        )
+    };
+    let line = |zoom| {
+        let text = printed_by_both(file(zoom).as_bytes());
+        text.lines().nth(1).unwrap().to_string()
+    };
+    let met = "(zoom met (levels 1) (floor 16 0 0) (ceiling 18) (kept 1))";
+    assert_eq!(line("1000 6"), met);
+    // 1000 x 18 = (1000 + 2 x 62.5) x 16: the least accuracy that meets is 63.
+    assert_eq!(line("63 6"), met);
+    assert_ne!(line("62 6"), met);
+    let exact = "(zoom exact (levels 4) (floor 16 0 0) (ceiling 16) (kept 0))";
+    assert_eq!(line("0 6"), exact);
+}
+
+#[test]
+fn window_as_large_as_the_layout() {
+    for cut in [1, 2, 4, 8] {
+        let file = format!(
+            "(job (size 8) (window 8) (cut {cut}) (gap 1) (bounds 0 5000) (zoom 0 6))\n\
+             (rect 3 3 5 5)\n(end)\n"
+        );
+        let expected = "(exact (max 4 0 0) (min 4 0 0))\n\
+                        (zoom met (levels 1) (floor 4 0 0) (ceiling 4) (kept 0))\n\
+                        (density 625)\n\
+                        (fill safe)\n";
+        assert_eq!(printed_by_both(file.as_bytes()), expected);
+    }
+}
+
+const SMALL: &[u8] = b"(job (size 8) (window 4) (cut 2) (gap 1) (bounds 0 5000) (zoom 0 6))\n\
+                       (rect 3 3 5 5)\n(fill 0 0 2)\n(end)\n";
+
+#[test]
+fn buffers_of_every_length() {
+    let text = printed(Method::Fast, SMALL);
+    for length in 0..text.len() + 20 {
+        for method in [Method::Brute, Method::Fast] {
+            let mut buffer = vec![b'#'; length];
+            let reply = answer_by(method, SMALL, &mut buffer);
+            if length < text.len() {
+                assert_eq!(
+                    reply,
+                    Reply::Refused {
+                        number: 13,
+                        line: 0
+                    }
+                );
+                assert!(buffer.iter().all(|&byte| byte == b'#'));
+            } else {
+                assert_eq!(reply, Reply::Accepted(text.len()));
+                let (front, behind) = buffer.split_at(text.len());
+                assert_eq!(front, text.as_bytes());
+                assert!(behind.iter().all(|&byte| byte == b'#'));
+            }
+        }
+    }
+}
+
+#[test]
+fn refused_files_write_nothing() {
+    for case in boundary_jobs() {
+        let mut buffer = [b'#'; 512];
+        let reply = answer(&case.job, &mut buffer);
+        if let Some(Refusal { number, line }) = case.refusal {
+            assert_eq!(reply, Reply::Refused { number, line }, "{}", case.name);
+            assert_eq!(buffer, [b'#'; 512], "{}", case.name);
+            // A fault of the file counts before the buffer's.
+            assert_eq!(answer(&case.job, &mut []), reply, "{}", case.name);
+        }
+    }
+}
+
+#[test]
+fn large_jobs_are_accepted() {
+    let mut random = Random::new(77);
+    let fixed = large_jobs().into_iter().map(|large| large.job);
+    let jobs: Vec<Vec<u8>> = fixed
+        .chain((0..40).map(|_| large_job(&mut random)))
+        .collect();
+    for job in jobs {
+        let mut buffer = [0; 512];
+        let reply = answer(&job, &mut buffer);
+        assert!(matches!(reply, Reply::Accepted(_)), "{reply:?}");
+    }
+}
+
+#[test]
+fn heaviest_jobs_are_as_heavy_as_can_be() {
+    let jobs = large_jobs();
+    let read = |name: &str| {
+        let large = jobs.iter().find(|large| large.name == name).unwrap();
+        fast::read(&large.job).unwrap()
+    };
+    let sides = read("different sides");
+    assert_eq!((sides.size, sides.rects.len()), (65_535, 256));
+    let starts = read("most starts");
+    assert_eq!((starts.tiles(), starts.window % 16), (64, 0));
+    for job in [&sides, &starts] {
+        let cover = fast::drawn_cover(job);
+        assert!(cover.column_cuts().len() >= 512 && cover.row_cuts().len() >= 512);
+    }
+    let tiles = read("most tiles");
+    assert_eq!(tiles.fills.len(), 4096);
+    assert!(tiles.fills.iter().filter(|&&p| p > 0).count() > 3800);
+}

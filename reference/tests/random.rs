@@ -1,0 +1,228 @@
+//! Random jobs: the two methods against each other, and the promises of an
+//! answer against what they promise. The seed of a failing job is printed.
+
+mod common;
+
+use common::printed_by_both;
+use reference::answer::Method;
+use reference::brute::{self, Grid};
+use reference::fast;
+use reference::generate::{
+    bytes_of, damaged_job, faulty_job, small_job, small_lines, Line, Random,
+};
+use reference::job::Job;
+use reference::outcome::{End, Exact, Failure, Outcome, Quick, Side, Verdict, Window};
+
+/// Runs a check on random sources with consecutive seeds.
+fn for_seeds(first: u64, count: u64, check: impl Fn(&mut Random)) {
+    println!("seeds {first} to {}", first + count - 1);
+    for seed in first..first + count {
+        println!("seed {seed}");
+        check(&mut Random::new(seed));
+    }
+}
+
+#[test]
+fn brute_and_fast_agree_on_valid_jobs() {
+    for_seeds(10_000, 8000, |random| {
+        let printed = printed_by_both(&small_job(random));
+        assert!(!printed.starts_with("(refused"), "{printed}");
+    });
+}
+
+#[test]
+fn brute_and_fast_agree_on_faulty_jobs() {
+    for_seeds(20_000, 4000, |random| {
+        printed_by_both(&faulty_job(random));
+    });
+}
+
+#[test]
+fn brute_and_fast_agree_on_damaged_jobs() {
+    for_seeds(30_000, 4000, |random| {
+        let job = damaged_job(random);
+        if stated_size(&job).is_none_or(|size| size <= 64) {
+            printed_by_both(&job);
+        }
+    });
+}
+
+/// The size that a file's first line states, if it begins as a head does.
+fn stated_size(file: &[u8]) -> Option<u64> {
+    let digits = file.strip_prefix(b"(job (size ")?;
+    let end = digits.iter().position(|byte| !byte.is_ascii_digit())?;
+    std::str::from_utf8(&digits[..end]).ok()?.parse().ok()
+}
+
+fn valid_job(random: &mut Random) -> Job {
+    fast::read(&small_job(random)).expect("small jobs are valid")
+}
+
+#[test]
+fn fillable_areas_agree() {
+    for_seeds(40_000, 3000, |random| {
+        let job = valid_job(random);
+        assert_eq!(fast::fillable_areas(&job), brute::fillable_areas(&job));
+    });
+}
+
+#[test]
+fn named_windows_and_bounds_of_the_maximum() {
+    for_seeds(50_000, 3000, |random| {
+        let job = valid_job(random);
+        let grid = Grid::new(&job);
+        let Outcome { exact, quick, .. } = Method::Fast.outcome(&job);
+        for window in [exact.max, exact.min, quick.floor] {
+            assert_eq!(window.area, area_at(&job, &grid, window.x, window.y));
+        }
+        let positions = 0..job.last_position() + 1;
+        for (x, y) in brute::squares(positions.clone(), positions) {
+            let area = area_at(&job, &grid, x, y);
+            assert!(exact.min.area <= area && area <= exact.max.area);
+        }
+        let (floor, max, ceiling) = (quick.floor.area, exact.max.area, quick.ceiling);
+        assert!(floor <= max && max <= ceiling);
+        if quick.end == End::Met {
+            let distance = (floor + ceiling).abs_diff(2 * max);
+            assert!(1000 * distance <= 2 * job.accuracy * max);
+        }
+    });
+}
+
+fn area_at(job: &Job, grid: &Grid, x: u64, y: u64) -> u64 {
+    grid.area(x..x + job.window, y..y + job.window)
+}
+
+/// Chosen squares of a layout, row by row.
+struct Placement(Vec<bool>);
+
+/// Which eligible squares a placement prefers, given a window position.
+#[derive(Clone, Copy)]
+enum Preference {
+    None,
+    Inside,
+    Outside,
+}
+
+impl Placement {
+    fn new(random: &mut Random, job: &Job, grid: &Grid, preference: Preference) -> Placement {
+        let end = job.last_position() + 1;
+        let (left, bottom) = (random.below(end), random.below(end));
+        let inside = |&(x, y): &(u64, u64)| {
+            let within = |at: u64, start: u64| (start..start + job.window).contains(&at);
+            within(x, left) && within(y, bottom)
+        };
+        let mut chosen = vec![false; (job.size * job.size) as usize];
+        let tiles = brute::squares(0..job.tiles(), 0..job.tiles());
+        for ((column, row), &amount) in tiles.zip(&job.fills) {
+            let mut squares: Vec<(u64, u64)> = brute::tile_squares(job, column, row)
+                .filter(|&(x, y)| brute::is_eligible(job, grid, x, y))
+                .collect();
+            random.shuffle(&mut squares);
+            match preference {
+                Preference::None => (),
+                Preference::Inside => squares.sort_by_key(|square| !inside(square)),
+                Preference::Outside => squares.sort_by_key(inside),
+            }
+            for (x, y) in &squares[..amount as usize] {
+                chosen[(y * job.size + x) as usize] = true;
+            }
+        }
+        Placement(chosen)
+    }
+
+    /// Drawn and chosen squares of the window at a position.
+    fn sum_at(&self, job: &Job, grid: &Grid, x: u64, y: u64) -> u64 {
+        let is_taken = |&(x, y): &(u64, u64)| self.0[(y * job.size + x) as usize];
+        let squares = brute::squares(x..x + job.window, y..y + job.window);
+        area_at(job, grid, x, y) + squares.filter(is_taken).count() as u64
+    }
+}
+
+#[test]
+fn verdicts_hold_for_placements() {
+    for_seeds(60_000, 1500, |random| {
+        let job = valid_job(random);
+        let grid = Grid::new(&job);
+        let verdict = Method::Fast.outcome(&job).verdict;
+        for preference in [Preference::None, Preference::Inside, Preference::Outside] {
+            let placement = Placement::new(random, &job, &grid, preference);
+            match verdict {
+                Verdict::Safe => assert_keeps_both(&job, &grid, &placement),
+                Verdict::Broken(named) => assert_breaks(&job, &grid, &placement, named),
+                Verdict::Undecided(_) => (),
+            }
+        }
+    });
+}
+
+fn assert_keeps_both(job: &Job, grid: &Grid, placement: &Placement) {
+    let positions = 0..job.last_position() + 1;
+    for (x, y) in brute::squares(positions.clone(), positions) {
+        let sum = placement.sum_at(job, grid, x, y);
+        assert!(job.keeps_upper(sum) && job.keeps_lower(sum), "{job:?}");
+    }
+}
+
+fn assert_breaks(job: &Job, grid: &Grid, placement: &Placement, named: Failure) {
+    let (x, y) = (named.column * job.tile_side(), named.row * job.tile_side());
+    let sum = placement.sum_at(job, grid, x, y);
+    let keeps = match named.side {
+        Side::Over => job.keeps_upper(sum),
+        Side::Under => job.keeps_lower(sum),
+    };
+    assert!(!keeps, "{job:?}");
+}
+
+/// Magnifying a job by an odd factor keeps the number of halvings, so all of
+/// the answer is the small one's, magnified. This holds the fast method at
+/// full size to the squares counted at small size.
+#[test]
+fn magnified_jobs_have_magnified_answers() {
+    for_seeds(70_000, 2000, |random| {
+        let mut lines = small_lines(random);
+        let small = brute::read(&bytes_of(&lines)).unwrap();
+        let factor = (65_535 / small.size - random.below(3)).saturating_sub(1) | 1;
+        for line in &mut lines {
+            magnify(line, factor);
+        }
+        let large = fast::read(&bytes_of(&lines)).unwrap();
+        let expected = magnified(Method::Brute.outcome(&small), factor);
+        assert_eq!(Method::Fast.outcome(&large), expected, "{small:?}");
+    });
+}
+
+fn magnify(line: &mut Line, factor: u64) {
+    match line {
+        Line::Head([size, window, _, gap, ..]) => {
+            *size *= factor;
+            *window *= factor;
+            // A gap as wide as the layout stays so.
+            *gap = (*gap * factor).min(65_535);
+        }
+        Line::Rect(corners) => corners.iter_mut().for_each(|side| *side *= factor),
+        Line::Fill([_, _, amount]) => *amount *= factor * factor,
+        Line::End => (),
+    }
+}
+
+fn magnified(small: Outcome, factor: u64) -> Outcome {
+    let area = |area: u64| area * factor * factor;
+    let window = |w: Window| Window {
+        area: area(w.area),
+        x: w.x * factor,
+        y: w.y * factor,
+    };
+    Outcome {
+        exact: Exact {
+            max: window(small.exact.max),
+            min: window(small.exact.min),
+        },
+        quick: Quick {
+            floor: window(small.quick.floor),
+            ceiling: area(small.quick.ceiling),
+            ..small.quick
+        },
+        ..small
+    }
+}
