@@ -24,9 +24,8 @@ const NUMBER: u64 = 100_000;
 pub fn answer(file: &[u8], out: &mut [u8]) -> Reply {
     // SAFETY: both are slices for the time of the call, and the function has no
     // condition of its own.
-    let code = unsafe {
-        entries::density_answer(file.as_ptr(), file.len(), out.as_mut_ptr(), out.len())
-    };
+    let code =
+        unsafe { entries::density_answer(file.as_ptr(), file.len(), out.as_mut_ptr(), out.len()) };
     let (number, value) = (code / NUMBER, code % NUMBER);
     if number == 0 {
         Reply::Accepted(value as usize)

@@ -29,7 +29,11 @@ fn extreme(job: &Job, greatest: bool) -> u64 {
 /// edge a high side; at a first minimum it is the other way round.
 fn candidates(job: &Job, axis: usize, greatest: bool) -> Vec<u64> {
     let last = job.size - job.window;
-    let (near, far) = if greatest { (axis, axis + 2) } else { (axis + 2, axis) };
+    let (near, far) = if greatest {
+        (axis, axis + 2)
+    } else {
+        (axis + 2, axis)
+    };
     let mut list = vec![0, last];
     for rect in &job.rects {
         list.push(rect[near]);

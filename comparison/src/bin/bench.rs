@@ -22,7 +22,9 @@ fn time<T>(work: impl FnOnce() -> T) -> f64 {
 
 /// The least time of several runs.
 fn least_time<T>(mut work: impl FnMut() -> T) -> f64 {
-    (0..RUNS).map(|_| time(&mut work)).fold(f64::INFINITY, f64::min)
+    (0..RUNS)
+        .map(|_| time(&mut work))
+        .fold(f64::INFINITY, f64::min)
 }
 
 /// The least times up to each phase of the proved unit, in turn within a run so
@@ -54,19 +56,51 @@ fn second_times(bytes: &[u8], job: &Job) -> [f64; 4] {
     ]
 }
 
+/// The job without its fills: what is left of reading is no fillable area.
+fn without_fills(bytes: &[u8]) -> Vec<u8> {
+    bytes
+        .split_inclusive(|&byte| byte == b'\n')
+        .filter(|line| !line.starts_with(b"(fill"))
+        .flatten()
+        .copied()
+        .collect()
+}
+
 fn bench(large: &LargeJob) {
     let bytes = &large.job;
     let job = fast::read(bytes).expect("large jobs are valid");
     println!("{} ({} bytes)", large.name, bytes.len());
-    println!("  {:28} {:>10} {:>10} {:>8}", "phase", "proved ms", "second ms", "ratio");
+    println!(
+        "  {:28} {:>10} {:>10} {:>8}",
+        "phase", "proved ms", "second ms", "ratio"
+    );
     let upto = times_upto(bytes);
     let second = second_times(bytes, &job);
-    print_row("reading and fillable areas", upto[0], second[0]);
+    let unfilled = without_fills(bytes);
+    let reading = least_time(|| phase(&unfilled, 0));
+    print_row(
+        "reading, fills left out",
+        reading,
+        least_time(|| fast::read(&unfilled)),
+    );
+    print_row(
+        "fills: fillable areas",
+        upto[0] - reading,
+        least_time(|| fast::fillable_areas(&job)),
+    );
+    print_row("reading in all", upto[0], second[0]);
     print_row("exact run", upto[1] - upto[0], second[1]);
-    print_row("  beside a plain loop", upto[1] - upto[0], least_time(|| plain::exact_run(&job)));
+    print_row(
+        "  beside a plain loop",
+        upto[1] - upto[0],
+        least_time(|| plain::exact_run(&job)),
+    );
     print_row("quick run", upto[2] - upto[1], second[2]);
     print_row("verdict", upto[3] - upto[0], second[3]);
-    println!("  quick run / exact run: {:.3}", (upto[2] - upto[1]) / (upto[1] - upto[0]));
+    println!(
+        "  quick run / exact run: {:.3}",
+        (upto[2] - upto[1]) / (upto[1] - upto[0])
+    );
 }
 
 fn main() {
