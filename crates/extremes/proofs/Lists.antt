@@ -15,6 +15,7 @@ use Rattle.geometry.specs.declared.Sense.{Sense}
 use Rattle.geometry.specs.declared.Sense.the-variants.{Greatest, Least}
 use Rattle.geometry.specs.Layout.{rectsOf, rectAt}
 use Rattle.geometry.specs.Overlaps.{Front}
+use Rattle.geometry.proofs.Fronts.{front-take}
 use Rattle.geometry.proofs.Tables.{rects-next, rects-end}
 use Rattle.extremes.specs.Search.{side, nearSide, farSide, listed, withPosition, withEnd, withSides, candidates}
 
@@ -40,15 +41,6 @@ front-same out count h = record {
   count = sym (length-take-le count out h);
   kept = rw (length-take-le count out h) (sym (take-append-drop count out));
 }
-
-pub front-take : (before l after : List ℕ) (r : ℕ) → Front before l after r → take r after ≡ l
-front-take before l after r f = rw (f .kept) (take-at l _ r (sym (f .count)))
-
-pub front-fits : (before l after : List ℕ) (r : ℕ) → Front before l after r → r ≤ length after
-front-fits before l after r f = omega (arith, f .count, ap length (f .kept), length-append l (drop (length l) before))
-
-pub front-count : (before l after : List ℕ) (r : ℕ) → Front before l after r → r ≡ length (take r after)
-front-count before l after r f = f .count ∙ ap length (sym (front-take before l after r f))
 
 pub front-chain : (before l mid m after : List ℕ) (k r : ℕ) → Front before l mid k → Front mid m after r → length l ≤ length m → Front before m after r
 front-chain before l mid m after k r f g h = record { count = g .count; kept = g .kept ∙ ap (λ (t : List ℕ). m ++ t) rest }

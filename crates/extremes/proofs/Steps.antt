@@ -19,7 +19,7 @@ use Rattle.geometry.proofs.Overlaps.{strip-is-area}
 use Rattle.geometry.proofs.Strips.{strip-small}
 use Rattle.extremes.specs.Exact.{windowArea}
 use Rattle.extremes.specs.Search.{earlier, leads, leading, passed, leadingInRow, leadingInRows, Small}
-use Rattle.extremes.proofs.Lists.{front-take}
+use Rattle.geometry.proofs.Fronts.{front-take}
 
 -- ---- which of two windows goes first
 

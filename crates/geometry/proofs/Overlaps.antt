@@ -1,9 +1,9 @@
 -- The sums that the code forms count the covered unit squares: a rectangle shares with a box the product of the two lengths in common, and
 -- disjoint rectangles add up.
 use Prim.Native.Nat.{ℕ, zero, suc, _+_, _-_, _*_, _≤_, _<_}
-use mathlib.Core.Path.{_≡_, refl, sym, ap, ap₂, _∙_}
+use mathlib.Core.Path.{_≡_, refl, sym, ap, ap₂, _∙_, subst}
 use mathlib.Core.Bool.{Bool, true, false, _&&_, _||_}
-use mathlib.Core.List.{List, [], _∷_}
+use mathlib.Core.List.{List, [], _∷_, _++_}
 use mathlib.Core.Logic.{_⊎_, inl, inr}
 use native.Mathlib.Omega.{arith}
 use lib.Dec.{T, leb, ltb}
@@ -11,7 +11,7 @@ use borrow.Author.Tests.{lt-ltb, le-ltb, le-leb, lt-leb, ltb-false}
 use Rattle.geometry.specs.declared.Rect.{Rect}
 use Rattle.geometry.specs.Count.{sum, span, boxSum, one-if}
 use Rattle.geometry.specs.Layout.{holds, covered, coveredArea, Disjoint}
-use Rattle.geometry.specs.Overlaps.{common, overlap, overlapSum, stripOf, stripSum}
+use Rattle.geometry.specs.Overlaps.{common, overlap, overlapSum, part, stripOf, stripSum}
 use Rattle.geometry.proofs.Counting.{le-or-lt, box-cong, box-le, box-plus, box-const, box-product}
 
 -- ---- tests as counts
@@ -99,31 +99,41 @@ overlap-is-area (r ∷ rs) b d =
 
 -- ---- strips
 
+-- a rectangle's part of a strip, where it meets what is asked for and where it does not
+pub part-full : (met a b h : ℕ) → 0 < met → part met a b h ≡ a ∷ b ∷ h ∷ []
+part-full met a b h p = rw (lt-ltb 0 met p, part)
+
+pub part-none : (met a b h : ℕ) → met ≤ 0 → part met a b h ≡ []
+part-none met a b h p = rw (le-ltb 0 met p, part)
+
+pub part-either : (met a b h : ℕ) (P : List ℕ → Type 0) → (0 < met → P (a ∷ b ∷ h ∷ [])) → (met ≤ 0 → P []) → P (part met a b h)
+part-either met a b h P full none = go (le-or-lt met 0)
+  where
+    go : (met ≤ 0) ⊎ (0 < met) → P (part met a b h)
+    go (inl p) = subst P (sym (part-none met a b h p)) (none p)
+    go (inr p) = subst P (sym (part-full met a b h p)) (full p)
+
+-- it adds what the rectangle has between two columns, if it is left out only where that is nothing
+pub part-sum : (met a b h : ℕ) (s : List ℕ) (x1 x2 : ℕ) → (met ≤ 0 → common a b x1 x2 * h ≡ 0) →
+    stripSum (part met a b h ++ s) x1 x2 ≡ common a b x1 x2 * h + stripSum s x1 x2
+unfolding stripSum
+part-sum met a b h s x1 x2 nothing =
+    part-either met a b h (λ l. stripSum (l ++ s) x1 x2 ≡ common a b x1 x2 * h + stripSum s x1 x2) (λ p. refl) (λ p. omega (arith, nothing p))
+
 -- a strip's sum is the sum of overlaps with the box between its rows, disjoint or not
 pub strip-is-overlap : (rs : List Rect) (x1 y1 x2 y2 : ℕ) →
     stripSum (stripOf rs y1 y2) x1 x2 ≡ overlapSum rs (record { x1 = x1; y1 = y1; x2 = x2; y2 = y2 })
 unfolding stripOf stripSum overlapSum
 strip-is-overlap [] x1 y1 x2 y2 = refl
-strip-is-overlap (r ∷ rs) x1 y1 x2 y2 = go (strip-is-overlap rs x1 y1 x2 y2) (ltb 0 rows) refl
+strip-is-overlap (r ∷ rs) x1 y1 x2 y2 =
+    part-sum rows (r .x1) (r .x2) rows (stripOf rs y1 y2) x1 x2 (λ p. omega (arith, ap (λ (k : ℕ). common (r .x1) (r .x2) x1 x2 * k) (none p)))
+    ∙ ap (λ (k : ℕ). common (r .x1) (r .x2) x1 x2 * rows + k) (strip-is-overlap rs x1 y1 x2 y2)
   where
     rows : ℕ
     rows = common (r .y1) (r .y2) y1 y2
 
-    columns : ℕ
-    columns = common (r .x1) (r .x2) x1 x2
-
-    rest : ℕ
-    rest = overlapSum rs (record { x1 = x1; y1 = y1; x2 = x2; y2 = y2 })
-
-    go : stripSum (stripOf rs y1 y2) x1 x2 ≡ rest → (t : Bool) → ltb 0 rows ≡ t → stripSum (stripOf (r ∷ rs) y1 y2) x1 x2 ≡ columns * rows + rest
-    go ih true e = rw (e, stripOf) (ap (λ (k : ℕ). columns * rows + k) ih)
-    go ih false e = rw (e, stripOf) (ih ∙ none)
-      where
-        none : rest ≡ columns * rows + rest
-        none = omega (arith, ap (λ (k : ℕ). columns * k) zero-rows)
-          where
-            zero-rows : rows ≡ 0
-            zero-rows = omega (arith, ltb-false 0 rows e)
+    none : rows ≤ 0 → rows ≡ 0
+    none p = omega arith
 
 pub strip-is-area : (rs : List Rect) (x1 y1 x2 y2 : ℕ) → Disjoint rs →
     stripSum (stripOf rs y1 y2) x1 x2 ≡ coveredArea rs (record { x1 = x1; y1 = y1; x2 = x2; y2 = y2 })

@@ -1,183 +1,118 @@
--- Strips: what is written for one rectangle, what a loop over the table has written, and that 64 bits hold a strip's sum.
+-- Strips: what is written for one rectangle and by the loops over a table or a strip, what narrowing leaves as it was, and that 64 bits hold
+-- a strip's sum.
 use Prim.Native.Nat.{ℕ, zero, suc, _+_, _*_, _≤_, _<_}
-use mathlib.Core.Path.{_≡_, refl, sym, ap, ap₂, _∙_}
-use mathlib.Core.Bool.{Bool, true, false}
-use mathlib.Core.List.{List, [], _∷_, _++_, append-nil, append-assoc}
-use native.Mathlib.Nat.{add-zero}
-use native.Mathlib.Numerals.{add-one, add-two}
+use mathlib.Core.Path.{_≡_, refl, sym, ap, _∙_}
+use mathlib.Core.List.{List, [], _∷_, _++_}
 use native.Mathlib.Omega.{arith}
-use lib.Dec.{ltb}
-use lib.ListN.{length, getD, take, drop, set, length-append, length-drop, take-append-drop}
-use lib.Seq.{sets-eq, take-at, drop-at, drop-drop, length-take-le}
-use borrow.Author.Tests.{lt-ltb, le-ltb}
+use lib.ListN.{length, getD, take, drop, set, length-append, length-drop}
 use Rattle.geometry.specs.declared.Rect.{Rect}
 use Rattle.geometry.specs.Layout.{coveredArea, rectsOf, rectAt, Drawn}
-use Rattle.geometry.specs.Overlaps.{common, stripOf, stripSum, StripSmall, Written, Front}
-use Rattle.geometry.proofs.Overlaps.{strip-is-area}
-use Rattle.geometry.proofs.Tables.{rects-next, rects-end, rects-few}
+use Rattle.geometry.specs.Overlaps.{common, part, rowsPart, stripOf, columnsPart, narrowed, stripSum, StripSmall, Written, Front}
+use Rattle.geometry.proofs.Overlaps.{part-full, part-none, part-either, part-sum, strip-is-area}
+use Rattle.geometry.proofs.Tables.{three-at, rects-next, rects-end, rects-few}
+use Rattle.geometry.proofs.Fronts.{three-written, nothing-written, FrontSoFar, front-moves, front-ends, front-take}
 
 -- ---- one rectangle
 
-strip-full : (r : Rect) (rs : List Rect) (y1 y2 : ℕ) → 0 < common (r .y1) (r .y2) y1 y2 →
-    stripOf (r ∷ rs) y1 y2 ≡ r .x1 ∷ r .x2 ∷ common (r .y1) (r .y2) y1 y2 ∷ stripOf rs y1 y2
-unfolding stripOf
-strip-full r rs y1 y2 h = rw (lt-ltb 0 (common (r .y1) (r .y2) y1 y2) h, stripOf)
+part-short : (met a b h : ℕ) → length (part met a b h) ≤ 3
+part-short met a b h = part-either met a b h (λ l. length l ≤ 3) (λ p. omega arith) (λ p. omega arith)
 
-strip-none : (r : Rect) (rs : List Rect) (y1 y2 : ℕ) → common (r .y1) (r .y2) y1 y2 ≤ 0 → stripOf (r ∷ rs) y1 y2 ≡ stripOf rs y1 y2
-unfolding stripOf
-strip-none r rs y1 y2 h = rw (le-ltb 0 (common (r .y1) (r .y2) y1 y2) h, stripOf)
+-- what the code leaves where the rectangle meets what is asked for, and where it does not
+module _ (l : List ℕ) (at met a b h : ℕ) where
+  pub part-written : 0 < met → at + 3 ≤ length l → Written l at (part met a b h) (set (set (set l at a) (at + 1) b) (at + 2) h) (at + 3)
+  part-written p fits = rw (part-full met a b h p) (three-written l at a b h fits)
 
-strip-empty : (y1 y2 : ℕ) → stripOf [] y1 y2 ≡ []
-unfolding stripOf
-strip-empty y1 y2 = refl
+  pub no-part-written : met ≤ 0 → Written l at (part met a b h) l at
+  no-part-written p = rw (part-none met a b h p) (nothing-written l at)
 
--- the first rectangle's part, then the others'
-strip-cons : (r : Rect) (rs : List Rect) (y1 y2 : ℕ) → stripOf (r ∷ rs) y1 y2 ≡ stripOf (r ∷ []) y1 y2 ++ stripOf rs y1 y2
-unfolding stripOf
-strip-cons r rs y1 y2 = go (ltb 0 (common (r .y1) (r .y2) y1 y2)) refl
+-- ---- the strip of some rows
+
+abbrev pub stripIn : (y1 y2 : ℕ) → List ℕ → List ℕ
+stripIn y1 y2 t = stripOf (rectsOf t) y1 y2
+
+module _ (t : List ℕ) (y1 y2 : ℕ) (before out : List ℕ) (at i : ℕ) (s : FrontSoFar (stripIn y1 y2) t before out at i) (room : length t ≤ length before) where
+  pub strip-next : (m : List ℕ) (r : ℕ) → i + 3 < length t → Written out at (rowsPart (rectAt t i) y1 y2) m r →
+      FrontSoFar (stripIn y1 y2) t before m r (i + 4)
+  unfolding stripOf
+  strip-next m r more p =
+      front-moves (stripIn y1 y2) t before out at i s room 4 (rowsPart (rectAt t i) y1 y2) m r (omega arith)
+      (omega (arith, part-short (common (getD t (i + 1) 0) (getD t (i + 3) 0) y1 y2) (getD t i 0) (getD t (i + 2) 0) (common (getD t (i + 1) 0) (getD t (i + 3) 0) y1 y2)))
+      (ap (λ (rs : List Rect). stripOf rs y1 y2) (rects-next t i more)) p
+
+  pub strip-end : length t ≤ i + 3 → Front before (stripIn y1 y2 t) out at
+  unfolding stripOf
+  strip-end done = front-ends (stripIn y1 y2) t before out at i s room (ap (λ (rs : List Rect). stripOf rs y1 y2) (rects-end t i done))
+
+-- ---- the strip between some columns
+
+short-narrowed : (s : List ℕ) (x1 x2 : ℕ) → length s ≤ 2 → narrowed s x1 x2 ≡ []
+unfolding narrowed
+short-narrowed [] x1 x2 h = refl
+short-narrowed (a ∷ []) x1 x2 h = refl
+short-narrowed (a ∷ b ∷ []) x1 x2 h = refl
+short-narrowed (a ∷ b ∷ c ∷ s) x1 x2 h = absurd (omega arith)
+
+module _ (t : List ℕ) (x1 x2 : ℕ) (before out : List ℕ) (at i : ℕ) (s : FrontSoFar (λ l. narrowed l x1 x2) t before out at i) (room : length t ≤ length before) where
+  pub narrow-next : (m : List ℕ) (r : ℕ) → i + 2 < length t → Written out at (columnsPart t i x1 x2) m r →
+      FrontSoFar (λ l. narrowed l x1 x2) t before m r (i + 3)
+  unfolding narrowed
+  narrow-next m r more p =
+      front-moves (λ l. narrowed l x1 x2) t before out at i s room 3 (columnsPart t i x1 x2) m r (omega arith)
+      (part-short (common (getD t i 0) (getD t (i + 1) 0) x1 x2) (getD t i 0) (getD t (i + 1) 0) (getD t (i + 2) 0))
+      (ap (λ (l : List ℕ). narrowed l x1 x2) (three-at t i more)) p
+
+  pub narrow-end : length t ≤ i + 2 → Front before (narrowed t x1 x2) out at
+  narrow-end done =
+      front-ends (λ l. narrowed l x1 x2) t before out at i s room (short-narrowed (drop i t) x1 x2 (omega (arith, length-drop i t)))
+
+-- what was left out adds nothing between those columns
+pub narrowed-sum : (s : List ℕ) (x1 x2 a b : ℕ) → x1 ≤ a → b ≤ x2 → stripSum (narrowed s x1 x2) a b ≡ stripSum s a b
+unfolding narrowed stripSum
+narrowed-sum [] x1 x2 a b h k = refl
+narrowed-sum (c ∷ []) x1 x2 a b h k = refl
+narrowed-sum (c ∷ d ∷ []) x1 x2 a b h k = refl
+narrowed-sum (c ∷ d ∷ e ∷ s) x1 x2 a b h k =
+    part-sum (common c d x1 x2) c d e (narrowed s x1 x2) a b (λ p. omega (arith, ap (λ (n : ℕ). n * e) (none p)))
+    ∙ ap (λ (n : ℕ). common c d a b * e + n) (narrowed-sum s x1 x2 a b h k)
   where
-    go : (t : Bool) → ltb 0 (common (r .y1) (r .y2) y1 y2) ≡ t → stripOf (r ∷ rs) y1 y2 ≡ stripOf (r ∷ []) y1 y2 ++ stripOf rs y1 y2
-    go true e = rw (e, stripOf)
-    go false e = rw (e, stripOf)
+    none : common c d x1 x2 ≤ 0 → common c d a b ≡ 0
+    none p = omega arith
 
-strip-one-short : (r : Rect) (y1 y2 : ℕ) → length (stripOf (r ∷ []) y1 y2) ≤ 3
-unfolding stripOf
-strip-one-short r y1 y2 = go (ltb 0 (common (r .y1) (r .y2) y1 y2)) refl
-  where
-    go : (t : Bool) → ltb 0 (common (r .y1) (r .y2) y1 y2) ≡ t → length (stripOf (r ∷ []) y1 y2) ≤ 3
-    go true e = rw (e, stripOf) (omega arith)
-    go false e = rw (e, stripOf) (omega arith)
-
--- three stores are a list written at a place
-three-written : (l : List ℕ) (at a b h : ℕ) → at + 3 ≤ length l → Written l at (a ∷ b ∷ h ∷ []) (set (set (set l at a) (at + 1) b) (at + 2) h) (at + 3)
-three-written l at a b h p = record { next = refl; kept = rw (add-one, add-two) (sets-eq (a ∷ b ∷ h ∷ []) l at p) }
-
-nothing-written : (l : List ℕ) (at : ℕ) → Written l at [] l at
-nothing-written l at =
-    record {
-      next = sym (add-zero at);
-      kept = sym (rw (add-zero, append-nil) (take-append-drop at l));
-    }
-
--- what the code leaves where the rectangle meets the rows, and where it does not
-pub one-written : (t l : List ℕ) (i y1 y2 at rows : ℕ) → rows ≡ common (getD t (i + 1) 0) (getD t (i + 3) 0) y1 y2 → 0 < rows → at + 3 ≤ length l →
-    Written l at (stripOf (rectAt t i ∷ []) y1 y2) (set (set (set l at (getD t i 0)) (at + 1) (getD t (i + 2) 0)) (at + 2) rows) (at + 3)
-one-written t l i y1 y2 at rows e h p =
-    rw (e, strip-full (rectAt t i) [] y1 y2 (rw e at h), strip-empty) (three-written l at _ _ _ p)
-
-pub none-written : (t l : List ℕ) (i y1 y2 at rows : ℕ) → rows ≡ common (getD t (i + 1) 0) (getD t (i + 3) 0) y1 y2 → rows ≤ 0 →
-    Written l at (stripOf (rectAt t i ∷ []) y1 y2) l at
-none-written t l i y1 y2 at rows e h = rw (strip-none (rectAt t i) [] y1 y2 (rw e at h), strip-empty) (nothing-written l at)
-
--- ---- a loop over the table, part of the strip written
-
-pub record StripSoFar (t : List ℕ) (y1 y2 : ℕ) (before out : List ℕ) (at i : ℕ) : Type 0 where
-  pub whole : take at out ++ stripOf (rectsOf (drop i t)) y1 y2 ≡ stripOf (rectsOf t) y1 y2
-  pub rest : drop at out ≡ drop at before
-  pub same : length out ≡ length before
-  pub behind : at ≤ i
-  pub within : i ≤ length t
-
-pub strip-start : (t : List ℕ) (y1 y2 : ℕ) (out : List ℕ) → StripSoFar t y1 y2 out out 0 0
-strip-start t y1 y2 out = record { whole = refl; rest = refl; same = refl; behind = omega arith; within = omega arith }
-
-module _ (l : List ℕ) (at : ℕ) (w m : List ℕ) (r : ℕ) (p : Written l at w m r) (fits : r ≤ length l) where
-  head-length : length (take at l ++ w) ≡ r
-  head-length = omega (arith, length-append (take at l) w, length-take-le at l (omega arith), p .next)
-
-  written-take : take r m ≡ take at l ++ w
-  written-take = ap (take r) (p .kept) ∙ take-at (take at l ++ w) (drop (at + length w) l) r head-length
-
-  written-drop : drop r m ≡ drop r l
-  written-drop =
-      ap (drop r) (p .kept) ∙ drop-at (take at l ++ w) (drop (at + length w) l) r head-length ∙ ap (λ (k : ℕ). drop k l) (sym (p .next))
-
-  written-length : length m ≡ length l
-  written-length =
-      ap length (p .kept)
-      ∙ omega (arith, length-append (take at l ++ w) (drop (at + length w) l), head-length, length-drop (at + length w) l, p .next)
-
-later-drop : (a b : List ℕ) (at n : ℕ) → drop at a ≡ drop at b → drop (at + n) a ≡ drop (at + n) b
-later-drop a b at n e = sym (drop-drop n at a) ∙ ap (drop n) e ∙ drop-drop n at b
-
-pub strip-next : (t : List ℕ) (y1 y2 : ℕ) (before out : List ℕ) (at i : ℕ) (m : List ℕ) (r : ℕ) → StripSoFar t y1 y2 before out at i →
-    length t ≤ length before → i + 3 < length t → Written out at (stripOf (rectAt t i ∷ []) y1 y2) m r → StripSoFar t y1 y2 before m r (i + 4)
-strip-next t y1 y2 before out at i m r s room more p =
-    record {
-      whole =
-          ap (λ (l : List ℕ). l ++ stripOf (rectsOf (drop (i + 4) t)) y1 y2) (written-take out at one m r p fits)
-          ∙ append-assoc (take at out) one (stripOf (rectsOf (drop (i + 4) t)) y1 y2)
-          ∙ ap (λ (l : List ℕ). take at out ++ l) (sym next)
-          ∙ s .whole;
-      rest =
-          written-drop out at one m r p fits
-          ∙ ap (λ (k : ℕ). drop k out) (p .next)
-          ∙ later-drop out before at (length one) (s .rest)
-          ∙ ap (λ (k : ℕ). drop k before) (sym (p .next));
-      same = written-length out at one m r p fits ∙ s .same;
-      behind = omega (arith, p .next, strip-one-short (rectAt t i) y1 y2, s .behind);
-      within = omega arith;
-    }
-  where
-    one : List ℕ
-    one = stripOf (rectAt t i ∷ []) y1 y2
-
-    fits : r ≤ length out
-    fits = omega (arith, p .next, strip-one-short (rectAt t i) y1 y2, s .behind, s .same)
-
-    next : stripOf (rectsOf (drop i t)) y1 y2 ≡ one ++ stripOf (rectsOf (drop (i + 4) t)) y1 y2
-    next = ap (λ (rs : List Rect). stripOf rs y1 y2) (rects-next t i more) ∙ strip-cons (rectAt t i) (rectsOf (drop (i + 4) t)) y1 y2
-
-pub strip-end : (t : List ℕ) (y1 y2 : ℕ) (before out : List ℕ) (at i : ℕ) → StripSoFar t y1 y2 before out at i → length t ≤ length before →
-    length t ≤ i + 3 → Front before (stripOf (rectsOf t) y1 y2) out at
-strip-end t y1 y2 before out at i s room done =
-    record {
-      count = sym size;
-      kept =
-          sym (take-append-drop at out)
-          ∙ ap₂ _++_ all (s .rest)
-          ∙ ap (λ (k : ℕ). stripOf (rectsOf t) y1 y2 ++ drop k before) (sym size);
-    }
-  where
-    all : take at out ≡ stripOf (rectsOf t) y1 y2
-    all =
-        sym (append-nil (take at out))
-        ∙ ap (λ (l : List ℕ). take at out ++ l) (sym (ap (λ (rs : List Rect). stripOf rs y1 y2) (rects-end t i done) ∙ strip-empty y1 y2))
-        ∙ s .whole
-
-    size : length (stripOf (rectsOf t) y1 y2) ≡ at
-    size = ap length (sym all) ∙ length-take-le at out (omega (arith, s .behind, s .within, s .same))
-
--- ---- 64 bits hold the sum of a strip of drawn rectangles
+-- ---- 64 bits hold the sum of a strip of drawn rectangles, and of what is left of it
 
 strip-short : (rs : List Rect) (y1 y2 : ℕ) → length (stripOf rs y1 y2) ≤ 3 * length rs
 unfolding stripOf
 strip-short [] y1 y2 = omega arith
 strip-short (r ∷ rs) y1 y2 =
-    rw (strip-cons r rs y1 y2)
-    (omega
-    (arith, length-append (stripOf (r ∷ []) y1 y2) (stripOf rs y1 y2), strip-one-short r y1 y2, strip-short rs y1 y2))
+    omega (
+      arith,
+      length-append (rowsPart r y1 y2) (stripOf rs y1 y2),
+      part-short (common (r .y1) (r .y2) y1 y2) (r .x1) (r .x2) (common (r .y1) (r .y2) y1 y2),
+      strip-short rs y1 y2,
+    )
 
-strip-numbers : (k : ℕ) (t : List ℕ) (y1 y2 : ℕ) → ((i : ℕ) → getD t i 0 ≤ k) → (i : ℕ) → getD (stripOf (rectsOf t) y1 y2) i 0 ≤ k
+-- no number is past k
+abbrev Below : ℕ → List ℕ → Type 0
+Below k l = (i : ℕ) → getD l i 0 ≤ k
+
+three-numbers : (k a b h : ℕ) (s : List ℕ) → a ≤ k → b ≤ k → h ≤ k → Below k s → Below k (a ∷ b ∷ h ∷ s)
+three-numbers k a b h s p q r ih zero = p
+three-numbers k a b h s p q r ih (suc zero) = q
+three-numbers k a b h s p q r ih (suc (suc zero)) = r
+three-numbers k a b h s p q r ih (suc (suc (suc i))) = ih i
+
+part-numbers : (k met a b h : ℕ) (s : List ℕ) → a ≤ k → b ≤ k → h ≤ k → Below k s → Below k (part met a b h ++ s)
+part-numbers k met a b h s p q r ih = part-either met a b h (λ l. Below k (l ++ s)) (λ _. three-numbers k a b h s p q r ih) (λ _. ih)
+
+strip-numbers : (k : ℕ) (t : List ℕ) (y1 y2 : ℕ) → Below k t → Below k (stripOf (rectsOf t) y1 y2)
 unfolding stripOf rectsOf
 strip-numbers k [] y1 y2 h i = omega arith
 strip-numbers k (a ∷ []) y1 y2 h i = omega arith
 strip-numbers k (a ∷ b ∷ []) y1 y2 h i = omega arith
 strip-numbers k (a ∷ b ∷ c ∷ []) y1 y2 h i = omega arith
-strip-numbers k (a ∷ b ∷ c ∷ d ∷ s) y1 y2 h i = go (ltb 0 rows) refl (strip-numbers k s y1 y2 (λ j. h (suc (suc (suc (suc j)))))) i
-  where
-    rows : ℕ
-    rows = common b d y1 y2
-
-    first : Rect
-    first = record { x1 = a; y1 = b; x2 = c; y2 = d }
-
-    go : (p : Bool) → ltb 0 rows ≡ p → ((j : ℕ) → getD (stripOf (rectsOf s) y1 y2) j 0 ≤ k) → (i : ℕ) → getD (stripOf (first ∷ rectsOf s) y1 y2) i 0 ≤ k
-    go false e ih i = rw (e, stripOf) (ih i)
-    go true e ih zero = rw (e, stripOf) (h 0)
-    go true e ih (suc zero) = rw (e, stripOf) (h 2)
-    go true e ih (suc (suc zero)) = rw (e, stripOf) (omega (arith, h 3))
-    go true e ih (suc (suc (suc i))) = rw (e, stripOf) (ih i)
+strip-numbers k (a ∷ b ∷ c ∷ d ∷ s) y1 y2 h i =
+    part-numbers k (common b d y1 y2) a c (common b d y1 y2) (stripOf (rectsOf s) y1 y2) (h 0) (h 2) (omega (arith, h 3))
+    (strip-numbers k s y1 y2 (λ j. h (suc (suc (suc (suc j)))))) i
 
 pub strip-small : (t : List ℕ) (y1 y2 : ℕ) → Drawn t → StripSmall (stripOf (rectsOf t) y1 y2)
 strip-small t y1 y2 d =
@@ -186,10 +121,35 @@ strip-small t y1 y2 d =
       small = strip-numbers 1048576 t y1 y2 (d .small);
     }
 
--- ---- the written part of the buffer, as it is lent for sums
+narrowed-short : (s : List ℕ) (x1 x2 : ℕ) → length (narrowed s x1 x2) ≤ length s
+unfolding narrowed
+narrowed-short [] x1 x2 = omega arith
+narrowed-short (a ∷ []) x1 x2 = omega arith
+narrowed-short (a ∷ b ∷ []) x1 x2 = omega arith
+narrowed-short (a ∷ b ∷ h ∷ s) x1 x2 =
+    omega (
+      arith,
+      length-append (part (common a b x1 x2) a b h) (narrowed s x1 x2),
+      part-short (common a b x1 x2) a b h,
+      narrowed-short s x1 x2,
+    )
 
-pub front-take : (before w after : List ℕ) (r : ℕ) → Front before w after r → take r after ≡ w
-front-take before w after r p = ap (take r) (p .kept) ∙ take-at w (drop (length w) before) r (sym (p .count))
+narrowed-numbers : (k : ℕ) (s : List ℕ) (x1 x2 : ℕ) → Below k s → Below k (narrowed s x1 x2)
+unfolding narrowed
+narrowed-numbers k [] x1 x2 h i = omega arith
+narrowed-numbers k (a ∷ []) x1 x2 h i = omega arith
+narrowed-numbers k (a ∷ b ∷ []) x1 x2 h i = omega arith
+narrowed-numbers k (a ∷ b ∷ c ∷ s) x1 x2 h i =
+    part-numbers k (common a b x1 x2) a b c (narrowed s x1 x2) (h 0) (h 1) (h 2) (narrowed-numbers k s x1 x2 (λ j. h (suc (suc (suc j))))) i
+
+pub narrowed-small : (s : List ℕ) (x1 x2 : ℕ) → StripSmall s → StripSmall (narrowed s x1 x2)
+narrowed-small s x1 x2 d =
+    record {
+      few = omega (arith, narrowed-short s x1 x2, d .few);
+      small = narrowed-numbers 1048576 s x1 x2 (d .small);
+    }
+
+-- ---- the written part of the buffer, as it is lent for sums
 
 module _ (t : List ℕ) (y1 y2 : ℕ) (before after : List ℕ) (r : ℕ) (p : Front before (stripOf (rectsOf t) y1 y2) after r) (d : Drawn t) where
   pub front-small : StripSmall (take r after)

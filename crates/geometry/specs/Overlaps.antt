@@ -21,12 +21,29 @@ unfoldable pub overlapSum : List Rect → Rect → ℕ
 overlapSum [] b = 0
 overlapSum (r ∷ rs) b = overlap r b + overlapSum rs b
 
--- a strip, what the rows y1 to y2 hold: three numbers to a rectangle that meets them, X1, X2 and the number of its rows there
+-- three numbers of a rectangle for a strip, its first and last column and its rows there, where it meets what is asked for; else nothing
+abbrev pub part : (met a b h : ℕ) → List ℕ
+part met a b h = elim (ltb 0 met) [ true ↦ a ∷ b ∷ h ∷ [] | false ↦ [] ]
+
+-- what the rows y1 to y2 hold of a rectangle
+abbrev pub rowsPart : Rect → (y1 y2 : ℕ) → List ℕ
+rowsPart r y1 y2 = part (common (r .y1) (r .y2) y1 y2) (r .x1) (r .x2) (common (r .y1) (r .y2) y1 y2)
+
+-- a strip, what the rows y1 to y2 hold
 unfoldable pub stripOf : List Rect → (y1 y2 : ℕ) → List ℕ
 stripOf [] y1 y2 = []
-stripOf (r ∷ rs) y1 y2 =
-    let h = common (r .y1) (r .y2) y1 y2 in
-    elim (ltb 0 h) [ true ↦ r .x1 ∷ r .x2 ∷ h ∷ stripOf rs y1 y2 | false ↦ stripOf rs y1 y2 ]
+stripOf (r ∷ rs) y1 y2 = rowsPart r y1 y2 ++ stripOf rs y1 y2
+
+-- what the columns x1 to x2 hold of the rectangle at place i of a strip
+abbrev pub columnsPart : List ℕ → (i x1 x2 : ℕ) → List ℕ
+columnsPart s i x1 x2 = part (common (getD s i 0) (getD s (i + 1) 0) x1 x2) (getD s i 0) (getD s (i + 1) 0) (getD s (i + 2) 0)
+
+-- the rectangles of a strip that meet the columns x1 to x2
+unfoldable pub narrowed : List ℕ → (x1 x2 : ℕ) → List ℕ
+narrowed [] x1 x2 = []
+narrowed (a ∷ []) x1 x2 = []
+narrowed (a ∷ b ∷ []) x1 x2 = []
+narrowed (a ∷ b ∷ h ∷ s) x1 x2 = part (common a b x1 x2) a b h ++ narrowed s x1 x2
 
 -- the area that a strip has between the columns x1 and x2
 unfoldable pub stripSum : List ℕ → (x1 x2 : ℕ) → ℕ

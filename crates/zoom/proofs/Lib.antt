@@ -5,6 +5,7 @@ pub mod Bracket
 pub mod PassOver
 pub mod Numbers
 pub mod Passes
+pub mod Holding
 pub mod Rows
 pub mod Zooming
 pub mod Cases

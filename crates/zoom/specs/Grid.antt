@@ -4,16 +4,17 @@ use mathlib.Core.Path.{_≡_}
 use mathlib.Core.Bool.{true, false}
 use mathlib.Core.List.{List}
 use lib.Dec.{leb}
-use lib.ListN.{getD}
+use lib.ListN.{length, getD, take}
 use Rattle.geometry.specs.declared.Rect.{Rect}
 use Rattle.geometry.specs.declared.Spot.{Spot}
 use Rattle.geometry.specs.declared.Sense.{Sense}
 use Rattle.geometry.specs.declared.Sense.the-variants.{Greatest, Least}
 use Rattle.geometry.specs.Count.{one-if}
 use Rattle.geometry.specs.Extreme.{better, spotAt, replaced}
-use Rattle.geometry.specs.Overlaps.{stripOf, stripSum}
+use Rattle.geometry.specs.Overlaps.{stripOf, stripSum, StripSmall}
 use Rattle.extremes.specs.Exact.{windowArea}
 use Rattle.zoom.specs.declared.Grid.{Grid}
+use Rattle.zoom.specs.declared.Held.{Held}
 use Rattle.zoom.specs.declared.Far.{Far}
 use Rattle.zoom.specs.declared.Level.{Level}
 use Rattle.zoom.specs.declared.End.the-variants.{Met, Stopped, Exact}
@@ -54,6 +55,13 @@ stripAt s rs n w t y = stripOf rs (spanFrom s t y) (spanTo s n w t y)
 -- the area of the far window at x in a strip, whose y is not asked
 abbrev pub alongStrip : Sense → List ℕ → (n w t x y : ℕ) → ℕ
 alongStrip s strip n w t x y = stripSum strip (spanFrom s t x) (spanTo s n w t x)
+
+-- the front of a buffer holds what the far windows meet of a strip, for the starts from i to before `until`
+pub record Meets (s : Sense) (strip : List ℕ) (g : Grid) (t i : ℕ) (held : Held) (buffer : List ℕ) : Type 0 where
+  pub fits : held .count ≤ length buffer
+  pub small : StripSmall (take (held .count) buffer)
+  pub same : (k y : ℕ) → i ≤ k → k < held .until →
+      alongStrip s (take (held .count) buffer) (g .n) (g .w) t (k * g .t) y ≡ alongStrip s strip (g .n) (g .w) t (k * g .t) y
 
 -- it is harmless to pass over the starts of a strip that the flags from the place `above` on name, for areas f
 abbrev pub Spares : Sense → (ℕ → ℕ → ℕ) → (t y n : ℕ) → List ℕ → (above best : ℕ) → Type 0

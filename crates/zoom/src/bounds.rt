@@ -11,8 +11,10 @@ ghost use Rattle.zoom.specs.Passing.{NoBetter, HarmlessRow, Harmless, fl
 ghost use Rattle.zoom.specs.Grid.{Sized, alongStrip, Spares, weighed, farInRow, farInRows};
 use crate::Far;
 use crate::Grid;
+use crate::Held;
 use crate::flags::flag_at;
 use crate::flags::put_flag;
+use crate::parts::part_at;
 use crate::spans::along_strip;
 use crate::spans::strip_at;
 use geometry::Sense;
@@ -38,12 +40,10 @@ fn weigh(sense: Sense, best: u64, far: Spot, new: &mut [u8], at: u64, before: Fa
     before
 }
 
-// One start of a row.
+// One start of a row, by what its window meets of the row's strip.
 fn look(
     sense: Sense,
-    strip: &[u64],
-    flags: &[u8],
-    above: u64,
+    near: &[u64],
     new: &mut [u8],
     at: u64,
     g: Grid,
@@ -52,19 +52,14 @@ fn look(
     best: u64,
     before: Far,
 ) -> Far
-    requires { ⌜ StripSmall (now strip) ⌝ }
-    requires { ⌜ x + g .w + g .t ≤ 4194304 ⌝ }
+    requires { ⌜ StripSmall (now near) ⌝ }
+    requires { ⌜ x + g .w + g .t ≤ 67108864 ⌝ }
     requires { ⌜ before .kept ≤ 4398046511104 ⌝ }
     requires { ⌜ NoBetter sense best (before .bound .area) ⌝ }
-    requires { ⌜ (getD (now flags) above 0 ≡ 1 → NoBetter sense (alongStrip sense (now strip) (g .n) (g .w) (g .t) x y) best) ⌝ }
-    ensures { λ r. ⌜ r ≡ weighed sense best before (spotAt (alongStrip sense (now (strip .entry)) (g .n) (g .w) (g .t)) x y) ⌝ }
-    ensures { λ r. ⌜ now (new .exit) ≡ set (now (new .entry)) at (flagOf sense best (alongStrip sense (now (strip .entry)) (g .n) (g .w) (g .t) x y)) ⌝ }
+    ensures { λ r. ⌜ r ≡ weighed sense best before (spotAt (alongStrip sense (now (near .entry)) (g .n) (g .w) (g .t)) x y) ⌝ }
+    ensures { λ r. ⌜ now (new .exit) ≡ set (now (new .entry)) at (flagOf sense best (alongStrip sense (now (near .entry)) (g .n) (g .w) (g .t) x y)) ⌝ }
 {
-    if flag_at(flags, above) == 1 {
-        put_flag(new, at, 1);
-        return before;
-    }
-    let area = along_strip(sense, strip, g, g.t, x, y);
+    let area = along_strip(sense, near, g, g.t, x, y);
     weigh(sense, best, Spot { area, x, y }, new, at, before)
 }
 
@@ -91,23 +86,29 @@ fn row(
     ensures { λ r. ⌜ r ≡ farInRow sense best (alongStrip sense (now (strip .entry)) (g .n) (g .w) (g .t)) (g .t) y (g .starts) before ⌝ }
     ensures { λ r. ⌜ now (new .exit) ≡ flagsInRow sense best (alongStrip sense (now (strip .entry)) (g .n) (g .w) (g .t)) (g .t) y at (g .starts) (now (new .entry)) ⌝ }
 {
+    let mut near = [0u64; 4096];
+    let mut held = Held { count: 0, until: 0 };
     let mut so_far = before;
     let mut i: u64 = 0;
     while i < g.starts {
-        so_far = look(
-            sense,
-            strip,
-            flags,
-            above + i / 2,
-            new,
-            at + i,
-            g,
-            i * g.t,
-            y,
-            best,
-            so_far,
-        );
-        i += 1;
+        if flag_at(flags, above + i / 2) == 1 {
+            put_flag(new, at + i, 1);
+            i += 1;
+        } else {
+            held = part_at(sense, strip, g, g.t, i, held, &mut near);
+            so_far = look(
+                sense,
+                &near[..held.count],
+                new,
+                at + i,
+                g,
+                i * g.t,
+                y,
+                best,
+                so_far,
+            );
+            i += 1;
+        }
     }
     so_far
 }

@@ -2,6 +2,7 @@
 mod bounds;
 mod flags;
 mod levels;
+mod parts;
 mod spans;
 mod standard;
 
@@ -42,6 +43,13 @@ struct Grid {
     w: u64,
     t: u64,
     starts: u64,
+}
+
+// What the front of a buffer holds of a row's strip: `count` numbers, which
+// suffice for the starts before `until`.
+struct Held {
+    count: usize,
+    until: u64,
 }
 
 // The search for the best far area of a level: what stands, and the starts

@@ -9,8 +9,8 @@ ghost use Rattle.zoom.specs.Grid.{spanFrom, spanTo, stripAt, alongStrip}
 use crate::Grid;
 use geometry::Sense;
 
-fn span_from(sense: Sense, t: u64, x: u64) -> u64
-    requires { ⌜ x + t ≤ 4194304 ⌝ }
+pub(crate) fn span_from(sense: Sense, t: u64, x: u64) -> u64
+    requires { ⌜ x + t ≤ 67108864 ⌝ }
     ensures { λ r. ⌜ r ≡ spanFrom sense t x ⌝ }
 {
     match sense {
@@ -19,8 +19,8 @@ fn span_from(sense: Sense, t: u64, x: u64) -> u64
     }
 }
 
-fn span_to(sense: Sense, n: u64, w: u64, t: u64, x: u64) -> u64
-    requires { ⌜ x + w + t ≤ 4194304 ⌝ }
+pub(crate) fn span_to(sense: Sense, n: u64, w: u64, t: u64, x: u64) -> u64
+    requires { ⌜ x + w + t ≤ 67108864 ⌝ }
     ensures { λ r. ⌜ r ≡ spanTo sense n w t x ⌝ }
 {
     match sense {
@@ -32,7 +32,7 @@ fn span_to(sense: Sense, n: u64, w: u64, t: u64, x: u64) -> u64
 // The area of the window at column x of a strip.
 pub(crate) fn along_strip(sense: Sense, strip: &[u64], g: Grid, t: u64, x: u64, y: u64) -> u64
     requires { ⌜ StripSmall (now strip) ⌝ }
-    requires { ⌜ x + g .w + t ≤ 4194304 ⌝ }
+    requires { ⌜ x + g .w + t ≤ 67108864 ⌝ }
     ensures { λ r. ⌜ r ≡ alongStrip sense (now (strip .entry)) (g .n) (g .w) t x y ⌝ }
 {
     let from = span_from(sense, t, x);
@@ -50,7 +50,7 @@ pub(crate) fn strip_at(
     out: &mut [u64],
 ) -> usize
     requires { ⌜ length (now rects) ≤ length (now out) ⌝ }
-    requires { ⌜ y + g .w + t ≤ 4194304 ⌝ }
+    requires { ⌜ y + g .w + t ≤ 67108864 ⌝ }
     ensures { λ r. ⌜ Front (now (out .entry)) (stripAt sense (rectsOf (now (rects .entry))) (g .n) (g .w) t y) (now (out .exit)) r ⌝ }
 {
     let from = span_from(sense, t, y);

@@ -10,32 +10,21 @@ ghost use Rattle.extremes.specs.Exact.{windowArea};
 ghost use Rattle.zoom.specs.Passing.{NoBetter, HarmlessRow, Harmless};
 ghost use Rattle.zoom.specs.Grid.{Sized, alongStrip, Spares};
 use crate::Grid;
+use crate::Held;
 use crate::flags::flag_at;
+use crate::parts::part_at;
 use crate::spans::along_strip;
 use crate::spans::strip_at;
 use geometry::Sense;
 use geometry::Spot;
 
-// One start of a row.
-fn look(
-    sense: Sense,
-    strip: &[u64],
-    flags: &[u8],
-    above: u64,
-    g: Grid,
-    x: u64,
-    y: u64,
-    best: Spot,
-) -> Spot
-    requires { ⌜ StripSmall (now strip) ⌝ }
-    requires { ⌜ x + g .w ≤ 2097152 ⌝ }
-    requires { ⌜ (getD (now flags) above 0 ≡ 1 → NoBetter sense (alongStrip sense (now strip) (g .n) (g .w) 0 x y) (best .area)) ⌝ }
-    ensures { λ r. ⌜ r ≡ replaced sense best (spotAt (alongStrip sense (now (strip .entry)) (g .n) (g .w) 0) x y) ⌝ }
+// One start of a row, by what its window meets of the row's strip.
+fn look(sense: Sense, near: &[u64], g: Grid, x: u64, y: u64, best: Spot) -> Spot
+    requires { ⌜ StripSmall (now near) ⌝ }
+    requires { ⌜ x + g .w ≤ 67108864 ⌝ }
+    ensures { λ r. ⌜ r ≡ replaced sense best (spotAt (alongStrip sense (now (near .entry)) (g .n) (g .w) 0) x y) ⌝ }
 {
-    if flag_at(flags, above) == 1 {
-        return best;
-    }
-    let area = along_strip(sense, strip, g, 0, x, y);
+    let area = along_strip(sense, near, g, 0, x, y);
     geometry::better_of(sense, best, Spot { area, x, y })
 }
 
@@ -47,11 +36,18 @@ fn row(sense: Sense, strip: &[u64], flags: &[u8], above: u64, g: Grid, y: u64, b
     requires { ⌜ Spares sense (alongStrip sense (now strip) (g .n) (g .w) 0) (g .t) y (g .starts) (now flags) above (before .area) ⌝ }
     ensures { λ r. ⌜ r ≡ bestInRow sense (alongStrip sense (now (strip .entry)) (g .n) (g .w) 0) (g .t) y (g .starts) before ⌝ }
 {
+    let mut near = [0u64; 4096];
+    let mut held = Held { count: 0, until: 0 };
     let mut best = before;
     let mut i: u64 = 0;
     while i < g.starts {
-        best = look(sense, strip, flags, above + i / 2, g, i * g.t, y, best);
-        i += 1;
+        if flag_at(flags, above + i / 2) == 1 {
+            i += 1;
+        } else {
+            held = part_at(sense, strip, g, 0, i, held, &mut near);
+            best = look(sense, &near[..held.count], g, i * g.t, y, best);
+            i += 1;
+        }
     }
     best
 }

@@ -4,18 +4,19 @@ use Prim.Native.Nat.{_-_}
 use native.Mathlib.Omega.{arith}
 use borrow.Author.Needs.{needs}
 use lib.ListN.{length}
-use Rattle.geometry.proofs.Strips.{StripSoFar, strip-start, strip-next, strip-end}
+use Rattle.geometry.proofs.Fronts.{FrontSoFar, front-starts}
+use Rattle.geometry.proofs.Strips.{stripIn, strip-next, strip-end}
 use Rattle.geometry.proofs.strip.Statement.{statement}
 use Rattle.geometry.proofs.strip.Tie as tie
 
 abbrev Inv-loop : tie.InvT-loop
-Inv-loop rects y1 y2 out₀ at₀ i₀ out at i = StripSoFar rects y1 y2 out₀ out at i
+Inv-loop rects y1 y2 out₀ at₀ i₀ out at i = FrontSoFar (stripIn y1 y2) rects out₀ out at i
 
 abbrev μ-loop : tie.MeasureT-loop
 μ-loop rects y1 y2 out₀ at₀ i₀ out at i = length rects - i
 
 loop-holds : tie.Need-loop-holds Inv-loop μ-loop
-loop-holds c = strip-start _ _ _ _
+loop-holds c = front-starts _ _ _
 
 add-loop : tie.Need-add-loop Inv-loop μ-loop
 add-loop c = omega arith
@@ -28,8 +29,8 @@ loop-again c =
     let turn = c .before .before .before .before in
     let at = turn .before .loop in
     let start = turn .before .before .before .before in
-    strip-next (start .args .rects .now) (start .args .y1) (start .args .y2) (start .args .out .now) (at .out) (at .at) (at .i) _
-    (c .before .before .strip-one .result) (at .inv) (start .pre) (turn .loop-test .taken) (c .before .before .strip-one .ensures)
+    strip-next (start .args .rects .now) (start .args .y1) (start .args .y2) (start .args .out .now) (at .out) (at .at) (at .i) (at .inv) (start .pre)
+    _ (c .before .before .strip-one .result) (turn .loop-test .taken) (c .before .before .strip-one .ensures)
 
 same-length : tie.Need-same-length Inv-loop μ-loop
 same-length c = c .before .loop .inv .same

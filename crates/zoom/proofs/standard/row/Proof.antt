@@ -1,56 +1,95 @@
--- `zoom::standard::row` meets its contract. The loop's invariant: `best` is the best of the first i starts. Assumes nothing.
-use Prim.Native.Nat.{_-_, _≤_}
-use mathlib.Core.Path.{_≡_, refl}
+-- `zoom::standard::row` meets its contract. The loop's invariant: `best` is the best of the first i starts, and the buffer holds what the next
+-- ones meet. Assumes nothing.
+use Prim.Native.Nat.{_-_, _*_, _≤_}
+use mathlib.Core.Path.{_≡_, refl, sym, _∙_}
 use native.Mathlib.Omega.{arith}
 use borrow.Author.Needs.{needs}
+use lib.ListN.{length}
 use Rattle.geometry.specs.declared.Spot.{Spot}
-use Rattle.geometry.specs.Extreme.{bestInRow}
-use Rattle.zoom.specs.Grid.{alongStrip}
-use Rattle.zoom.proofs.Passes.{starts-small, start-inside, row-spares, row-next, all-done}
+use Rattle.geometry.specs.Extreme.{spotAt, bestInRow}
+use Rattle.geometry.proofs.Extremes.{step-skip}
+use Rattle.zoom.specs.Grid.{alongStrip, Meets}
+use Rattle.zoom.proofs.Passes.{starts-small, start-inside, looked-at, row-spares, row-next, all-done}
+use Rattle.zoom.proofs.Holding.{meets-none, meets-next, meets-count}
 use Rattle.zoom.proofs.standard.row.Statement.{statement}
 use Rattle.zoom.proofs.standard.row.Tie as tie
 
 abbrev Inv-loop : tie.InvT-loop
-Inv-loop sense strip flags above g y best₀ i₀ best i =
-    (i ≤ g .starts) × (best ≡ bestInRow sense (alongStrip sense strip (g .n) (g .w) 0) (g .t) y i best₀)
+Inv-loop sense strip flags above g y near₀ held₀ best₀ i₀ near held best i =
+    (i ≤ g .starts) × (length near ≡ 4096) × Meets sense strip g 0 i held near
+    × (best ≡ bestInRow sense (alongStrip sense strip (g .n) (g .w) 0) (g .t) y i best₀)
 
 abbrev μ-loop : tie.MeasureT-loop
-μ-loop sense strip flags above g y best₀ i₀ best i = g .starts - i
+μ-loop sense strip flags above g y near₀ held₀ best₀ i₀ near held best i = g .starts - i
 
 loop-holds : tie.Need-loop-holds Inv-loop μ-loop
 unfolding bestInRow
-loop-holds c = (omega arith, refl)
+loop-holds c = (omega arith, refl, meets-none _ _ _ _ _, refl)
 
-add-look : tie.Need-add-look Inv-loop μ-loop
-add-look c =
+add-flag-at : tie.Need-add-flag-at Inv-loop μ-loop
+add-flag-at c =
     let start = c .before .before .before .before .before in
     omega (arith, starts-small (start .args .g) (start .pre .1 .0))
 
+loop-again : tie.Need-loop-again Inv-loop μ-loop
+loop-again c =
+    let start = c .before .before .before .before .before .before .before in
+    let a = start .args in
+    let at = c .before .before .before .before .loop in
+    let f = alongStrip (a .sense) (a .strip .now) (a .g .n) (a .g .w) 0 in
+    let more = c .before .before .if1 .taken in
+    let flagged = sym (c .before .flag-at .ensures) ∙ c .if2 .taken in
+    let spare = row-spares (a .sense) f (a .g .t) (a .y) (at .i) (a .before) (at .best) (at .inv .3) (a .g .starts) (a .flags .now) (a .above) (start .pre .1 .1 .1) more flagged in (
+      omega arith,
+      at .inv .1,
+      meets-next _ _ _ _ _ _ _ (at .inv .2),
+      row-next (a .sense) f (a .g .t) (a .y) (at .i) (a .before) (at .best) (at .inv .3) (at .best)
+          (sym (step-skip (a .sense) (at .best) (spotAt f (at .i * a .g .t) (a .y)) spare)),
+    )
+
+slice-aggregate-part-at : tie.Need-slice-aggregate-part-at Inv-loop μ-loop
+slice-aggregate-part-at c = sym (c .before .before .before .before .before .loop .inv .1)
+
+part-at-requires : tie.Need-part-at-requires Inv-loop μ-loop
+part-at-requires c κs =
+    let start = c .before .before .before .before .before .before .before .before in
+    let inv = c .before .before .before .before .before .loop .inv in
+    ((start .pre .0, omega (arith, start .pre .0 .few, inv .1)), ((start .pre .1 .0, omega arith, c .before .before .before .if1 .taken), inv .2))
+
+array-share-prefix-near : tie.Need-array-share-prefix-near Inv-loop μ-loop
+array-share-prefix-near c = c .before .part-at .ensures .0 .fits
+
+slice-aggregate-look : tie.Need-slice-aggregate-look Inv-loop μ-loop
+slice-aggregate-look c = meets-count _ _ _ _ _ _ _ (c .before .before .part-at .ensures .0)
+
 mul-look : tie.Need-mul-look Inv-loop μ-loop
 mul-look c =
-    let start = c .before .before .before .before .before .before in
-    omega (arith, start-inside (start .args .g) (c .before .before .before .loop .i) (start .pre .1 .0) (c .before .if1 .taken), start .pre .1 .0 .small)
+    let start = c .before .before .before .before .before .before .before .before .before .before .before .before in
+    let at = c .before .before .before .before .before .before .before .before .before .loop in
+    let more = c .before .before .before .before .before .before .before .if1 .taken in
+    omega (arith, start-inside (start .args .g) (at .i) (start .pre .1 .0) more, start .pre .1 .0 .small)
 
 look-requires : tie.Need-look-requires Inv-loop μ-loop
 look-requires c κs =
-    let start = c .before .before .before .before .before .before in
-    let a = start .args in
-    let at = c .before .before .before .loop in (
-      start .pre .0,
-      (
-        omega (arith, start-inside (a .g) (at .i) (start .pre .1 .0) (c .before .if1 .taken), start .pre .1 .0 .small),
-        row-spares (a .sense) (alongStrip (a .sense) (a .strip .now) (a .g .n) (a .g .w) 0) (a .g .t) (a .y) (at .i) (a .before) (at .best) (at .inv .1)
-            (a .g .starts) (a .flags .now) (a .above) (start .pre .1 .1 .1) (c .before .if1 .taken),
-      ),
-    )
+    let start = c .before .before .before .before .before .before .before .before .before .before .before .before in
+    let at = c .before .before .before .before .before .before .before .before .before .loop in
+    let more = c .before .before .before .before .before .before .before .if1 .taken in
+    (c .before .before .before .part-at .ensures .0 .small, omega (arith, start-inside (start .args .g) (at .i) (start .pre .1 .0) more, start .pre .1 .0 .small))
 
-loop-again : tie.Need-loop-again Inv-loop μ-loop
-loop-again c =
-    let a = c .before .before .before .before .before .before .before .args in
-    let at = c .before .before .before .before .loop in (
-      search needs,
-      row-next (a .sense) (alongStrip (a .sense) (a .strip .now) (a .g .n) (a .g .w) 0) (a .g .t) (a .y) (at .i) (a .before) (at .best) (at .inv .1)
-          (c .look .result) (c .look .ensures),
+loop-again-2 : tie.Need-loop-again-2 Inv-loop μ-loop
+loop-again-2 c =
+    let start = c .before .before .before .before .before .before .before .before .before .before .before .before .before in
+    let a = start .args in
+    let at = c .before .before .before .before .before .before .before .before .before .before .loop in
+    let more = c .before .before .before .before .before .before .before .before .if1 .taken in
+    let part = c .before .before .before .before .part-at in
+    let f = alongStrip (a .sense) (a .strip .now) (a .g .n) (a .g .w) 0 in
+    let x = at .i * a .g .t in (
+      omega arith,
+      part .kept .1 .1 .1 .1 .1 .1 .0 ∙ at .inv .1,
+      meets-next _ _ _ _ _ _ _ (part .ensures .0),
+      row-next (a .sense) f (a .g .t) (a .y) (at .i) (a .before) (at .best) (at .inv .3) (c .look .result)
+          (looked-at (a .sense) f x (a .y) _ (at .best) (c .look .result) (part .ensures .0 .same (at .i) (a .y) (omega arith) (part .ensures .1)) (c .look .ensures)),
     )
 
 returns : tie.Need-returns Inv-loop μ-loop
@@ -58,9 +97,10 @@ returns c =
     let a = c .before .before .before .before .before .args in
     let at = c .before .before .loop in
     all-done Spot (λ i. bestInRow (a .sense) (alongStrip (a .sense) (a .strip .now) (a .g .n) (a .g .w) 0) (a .g .t) (a .y) i (a .before)) (a .g .starts) (at .i)
-    (at .best) (at .inv .0) (at .inv .1) (c .if1 .left)
+    (at .best) (at .inv .0) (at .inv .3) (c .if1 .left)
 
 pub row-spec : {M : Type 1} → statement M
 row-spec =
     tie.close
-    (tie.spec Inv-loop μ-loop loop-holds add-look mul-look look-requires (λ c. search needs) (λ c. search needs) loop-again returns)
+    (tie.spec Inv-loop μ-loop loop-holds add-flag-at (λ c κs. search needs) (λ c. search needs) (λ c. search needs) loop-again slice-aggregate-part-at
+    part-at-requires array-share-prefix-near slice-aggregate-look mul-look look-requires (λ c. search needs) (λ c. search needs) loop-again-2 returns)

@@ -1,0 +1,69 @@
+-- The part of a row's strip that serves some starts: it has all that their windows meet.
+use Prim.Native.Nat.{ℕ, _+_, _*_, _≤_, _<_}
+use mathlib.Core.Path.{_≡_, sym, ap, _∙_}
+use mathlib.Core.List.{List, []}
+use native.Mathlib.Nat.{mul-le-mul, le-refl}
+use native.Mathlib.Omega.{arith}
+use lib.ListN.{length, take}
+use lib.Seq.{length-take-le}
+use Rattle.geometry.specs.declared.Sense.{Sense}
+use Rattle.geometry.specs.declared.Sense.the-variants.{Greatest, Least}
+use Rattle.geometry.specs.Overlaps.{stripSum, narrowed, StripSmall, Front}
+use Rattle.geometry.proofs.Fronts.{front-take, front-fits}
+use Rattle.geometry.proofs.Strips.{narrowed-sum, narrowed-small}
+use Rattle.zoom.specs.declared.Grid.{Grid}
+use Rattle.zoom.specs.declared.Held.{Held}
+use Rattle.zoom.specs.Grid.{Sized, spanFrom, spanTo, alongStrip, Meets}
+use Rattle.zoom.proofs.Passes.{start-inside}
+
+-- at first nothing is held, for no start
+pub meets-none : (s : Sense) (strip : List ℕ) (g : Grid) (t : ℕ) (buffer : List ℕ) → Meets s strip g t 0 (record { count = 0; until = 0 }) buffer
+meets-none s strip g t buffer =
+    record { fits = omega arith; small = record { few = omega arith; small = λ i. omega arith }; same = λ k y h l. absurd (omega arith) }
+
+-- what is held for start i is held for those after it
+pub meets-next : (s : Sense) (strip : List ℕ) (g : Grid) (t i : ℕ) (held : Held) (buffer : List ℕ) → Meets s strip g t i held buffer →
+    Meets s strip g t (i + 1) held buffer
+meets-next s strip g t i held buffer m = record { fits = m .fits; small = m .small; same = λ k y h l. m .same k y (omega arith) l }
+
+pub meets-count : (s : Sense) (strip : List ℕ) (g : Grid) (t i : ℕ) (held : Held) (buffer : List ℕ) → Meets s strip g t i held buffer →
+    held .count ≡ length (take (held .count) buffer)
+meets-count s strip g t i held buffer m = sym (length-take-le (held .count) buffer (m .fits))
+
+-- a window further on begins and ends no earlier
+from-grows : (s : Sense) (t a b : ℕ) → a ≤ b → spanFrom s t a ≤ spanFrom s t b
+from-grows Greatest t a b h = h
+from-grows Least t a b h = omega arith
+
+to-grows : (s : Sense) (n w t a b : ℕ) → a ≤ b → spanTo s n w t a ≤ spanTo s n w t b
+to-grows Greatest n w t a b h = omega arith
+to-grows Least n w t a b h = omega arith
+
+-- what meets the columns from the first window's begin to the last one's end serves these and all between
+pub meets-narrowed : (s : Sense) (strip : List ℕ) (g : Grid) (t i more : ℕ) (before after : List ℕ) (r : ℕ) → StripSmall strip →
+    Front before (narrowed strip (spanFrom s t (i * g .t)) (spanTo s (g .n) (g .w) t ((i + more) * g .t))) after r →
+    length strip ≤ length before →
+    Meets s strip g t i (record { count = r; until = i + more + 1 }) after
+meets-narrowed s strip g t i more before after r z e room =
+    record {
+      fits = front-fits _ _ _ _ e;
+      small = rw taken (narrowed-small strip from to z);
+      same = λ k y h l.
+          ap (λ (p : List ℕ). stripSum p (spanFrom s t (k * g .t)) (spanTo s (g .n) (g .w) t (k * g .t))) taken
+          ∙ narrowed-sum strip from to (spanFrom s t (k * g .t)) (spanTo s (g .n) (g .w) t (k * g .t))
+          (from-grows s t (i * g .t) (k * g .t) (mul-le-mul h (le-refl (g .t))))
+          (to-grows s (g .n) (g .w) t (k * g .t) ((i + more) * g .t) (mul-le-mul (omega arith) (le-refl (g .t))));
+    }
+  where
+    from : ℕ
+    from = spanFrom s t (i * g .t)
+
+    to : ℕ
+    to = spanTo s (g .n) (g .w) t ((i + more) * g .t)
+
+    taken : take r after ≡ narrowed strip from to
+    taken = front-take before (narrowed strip from to) after r e
+
+-- the last of the starts that a part serves may lie past the layout, by 31 tiles at most
+pub starts-further : (g : Grid) (i : ℕ) → Sized g → i < g .starts → (i + 31) * g .t + g .w ≤ g .n + 31 * g .w
+starts-further g i z h = omega (arith, start-inside g i z h, z .tiles)
