@@ -1,4 +1,4 @@
--- What the loops over lists and tables need: a list at the front of a buffer, one position more, and what a loop has passed and what is left.
+-- What the loops over lists and tables need: one position more, and what a loop has passed and what is left.
 use Prim.Native.Nat.{ℕ, zero, suc, _+_, _-_, _*_, _≤_, _<_}
 use mathlib.Core.Path.{_≡_, refl, sym, ap, _∙_}
 use mathlib.Core.Bool.{Bool, true, false}
@@ -14,8 +14,8 @@ use Rattle.geometry.specs.declared.Rect.{Rect}
 use Rattle.geometry.specs.declared.Sense.{Sense}
 use Rattle.geometry.specs.declared.Sense.the-variants.{Greatest, Least}
 use Rattle.geometry.specs.Layout.{rectsOf, rectAt}
-use Rattle.geometry.specs.Overlaps.{Front}
-use Rattle.geometry.proofs.Fronts.{front-take}
+use Rattle.buffers.specs.Written.{Front}
+use Rattle.buffers.proofs.Fronts.{front-same, front-take, front-chain}
 use Rattle.geometry.proofs.Tables.{rects-next, rects-end}
 use Rattle.extremes.specs.Search.{side, nearSide, farSide, listed, withPosition, withEnd, withSides, candidates}
 
@@ -33,25 +33,6 @@ module _ (l : List ℕ) (p i : ℕ) (whole : listed p (drop i l) ≡ listed p l)
   pub listed-end : length l ≤ i → false ≡ listed p l
   unfolding listed
   listed-end h = rw (drop-of-length-le l h) at whole
-
--- ---- a list at the front of a buffer
-
-pub front-same : (out : List ℕ) (count : ℕ) → count ≤ length out → Front out (take count out) out count
-front-same out count h = record {
-  count = sym (length-take-le count out h);
-  kept = rw (length-take-le count out h) (sym (take-append-drop count out));
-}
-
-pub front-chain : (before l mid m after : List ℕ) (k r : ℕ) → Front before l mid k → Front mid m after r → length l ≤ length m → Front before m after r
-front-chain before l mid m after k r f g h = record { count = g .count; kept = g .kept ∙ ap (λ (t : List ℕ). m ++ t) rest }
-  where
-    more : length l + (length m - length l) ≡ length m
-    more = omega arith
-
-    rest : drop (length m) mid ≡ drop (length m) before
-    rest =
-        rw (← more, f .kept)
-        (drop-append-add l (drop (length l) before) (length m - length l) ∙ drop-drop (length m - length l) (length l) before)
 
 -- ---- one position more
 

@@ -12,12 +12,12 @@ use Rattle.geometry.specs.declared.Spot.{Spot}
 use Rattle.geometry.specs.declared.Sense.{Sense}
 use Rattle.geometry.specs.declared.Sense.the-variants.{Greatest, Least}
 use Rattle.geometry.specs.Layout.{Disjoint, rectsOf, Drawn}
-use Rattle.geometry.specs.Overlaps.{Front}
+use Rattle.buffers.specs.Written.{Front}
 use Rattle.geometry.specs.Extreme.{better, spotAt}
 use Rattle.geometry.proofs.Extremes.{NoLater, better-neither, IsBest, Start, start-at, start-in, rows-best-of-all, best-of-fewer, best-unique, Dispensable}
 use Rattle.extremes.specs.Exact.{windowArea, positions, extreme, exactRun}
 use Rattle.extremes.specs.Search.{candidates, leadingInRows, searched}
-use Rattle.geometry.proofs.Fronts.{front-take}
+use Rattle.buffers.proofs.Fronts.{front-take}
 use Rattle.extremes.proofs.Candidates.{Better, NoBetter, FirstBest, at-start, candidate-across, candidate-up}
 use Rattle.extremes.proofs.Tried.{candidates-complete, candidates-within}
 use Rattle.extremes.proofs.Leading.{Listed, leading-best}

@@ -13,13 +13,14 @@ use Rattle.geometry.specs.declared.Spot.{Spot}
 use Rattle.geometry.specs.declared.Sense.{Sense}
 use Rattle.geometry.specs.declared.Rect.{Rect}
 use Rattle.geometry.specs.Layout.{rectsOf, coveredArea, Drawn}
-use Rattle.geometry.specs.Overlaps.{stripOf, stripSum, StripSmall, Front}
+use Rattle.buffers.specs.Written.{Front}
+use Rattle.geometry.specs.Overlaps.{stripOf, stripSum, StripSmall}
 use Rattle.geometry.specs.Extreme.{better, spotAt}
 use Rattle.geometry.proofs.Overlaps.{strip-is-area}
 use Rattle.geometry.proofs.Strips.{strip-small}
 use Rattle.extremes.specs.Exact.{windowArea}
 use Rattle.extremes.specs.Search.{earlier, leads, leading, passed, leadingInRow, leadingInRows, Small}
-use Rattle.geometry.proofs.Fronts.{front-take}
+use Rattle.buffers.proofs.Fronts.{front-take}
 
 -- ---- which of two windows goes first
 
@@ -88,10 +89,13 @@ strip-row t before after r s w xs y b c d f e =
     (λ x b. ap (λ (a : ℕ). leading s b (record { area = a; x = x; y = y }))
     (ap (λ (l : List ℕ). stripSum l x (x + w)) (front-take before _ after r f) ∙ strip-is-area (rectsOf t) x y (x + w) (y + w) (d .apart)))
 
--- the search begins with the window at (0, 0)
-pub rows-start : (rs : List Rect) (w a : ℕ) (s : Sense) (xs ys : List ℕ) → a ≡ coveredArea rs (record { x1 = 0; y1 = 0; x2 = w; y2 = w }) →
-    leadingInRows s (windowArea rs w) xs ys (record { area = a; x = 0; y = 0 }) ≡ leadingInRows s (windowArea rs w) xs ys (spotAt (windowArea rs w) 0 0)
-rows-start rs w a s xs ys e = ap (λ (k : ℕ). leadingInRows s (windowArea rs w) xs ys (record { area = k; x = 0; y = 0 })) (e ∙ moved)
-  where
-    moved : coveredArea rs (record { x1 = 0; y1 = 0; x2 = w; y2 = w }) ≡ windowArea rs w 0 0
-    moved = ap (λ (k : ℕ). coveredArea rs (record { x1 = 0; y1 = 0; x2 = k; y2 = k })) (sym (zero-add w))
+-- the window at the origin
+pub first-area : (rs : List Rect) (w a : ℕ) → a ≡ coveredArea rs (record { x1 = 0; y1 = 0; x2 = w; y2 = w }) →
+    _≡_ {A = Spot} (record { area = a; x = 0; y = 0 }) (spotAt (windowArea rs w) 0 0)
+first-area rs w a e =
+    ap (λ (k : ℕ). record { area = k; x = 0; y = 0 }) (e ∙ ap (λ (k : ℕ). coveredArea rs (record { x1 = 0; y1 = 0; x2 = k; y2 = k })) (sym (zero-add w)))
+
+-- the search begins with it
+pub rows-start : (f : ℕ → ℕ → ℕ) (s : Sense) (xs ys : List ℕ) (b : Spot) → b ≡ spotAt f 0 0 →
+    leadingInRows s f xs ys b ≡ leadingInRows s f xs ys (spotAt f 0 0)
+rows-start f s xs ys b e = ap (leadingInRows s f xs ys) e

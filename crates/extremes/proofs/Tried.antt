@@ -11,9 +11,9 @@ use lib.ListN.{getD, take}
 use borrow.Author.Tests.{le-leb, leb-true, eqb-true}
 use Rattle.geometry.specs.declared.Rect.{Rect}
 use Rattle.geometry.specs.declared.Sense.{Sense}
-use Rattle.geometry.specs.Overlaps.{Front}
+use Rattle.buffers.specs.Written.{Front}
 use Rattle.extremes.specs.Search.{Small, side, nearSide, farSide, listed, withPosition, withEnd, withSides, candidates}
-use Rattle.geometry.proofs.Fronts.{front-take}
+use Rattle.buffers.proofs.Fronts.{front-take}
 use Rattle.extremes.proofs.Candidates.{Meets, low-edge, high-edge, further, Candidate, at-start, at-end, at-side}
 
 listed-member : (p : ℕ) (l : List ℕ) → listed p l ≡ true → List·Memᴰ p l

@@ -11,7 +11,8 @@ ghost use mathlib.Core.Path.{_≡_};
 ghost use mathlib.Core.List.{[], _∷_};
 ghost use lib.ListN.{length, take};
 ghost use Rattle.geometry.specs.Layout.{rectsOf, Drawn};
-ghost use Rattle.geometry.specs.Overlaps.{Front, stripSum, StripSmall};
+ghost use Rattle.buffers.specs.Written.{Front};
+ghost use Rattle.geometry.specs.Overlaps.{stripSum, StripSmall};
 ghost use Rattle.geometry.specs.Extreme.{spotAt};
 ghost use Rattle.extremes.specs.Exact.{windowArea, extreme, exactRun};
 ghost use Rattle.extremes.specs.Search.{nearSide, farSide, listed, withPosition, withEnd, withSides, candidates};
@@ -220,11 +221,10 @@ fn search_row(rects: &[u64], w: u64, sense: Sense, xs: &[u64], y: u64, best: Spo
     search_strip(&cells[..count], w, sense, xs, y, best)
 }
 
-// Tries the windows at every listed x and y, after the one at (0, 0).
-fn search(rects: &[u64], w: u64, sense: Sense, xs: &[u64], ys: &[u64]) -> Spot
+// The window at the origin, with which every search begins.
+pub fn first_window(rects: &[u64], w: u64) -> Spot
     requires { ⌜ Drawn (now rects) ⌝ }
-    requires { ⌜ Small (now xs) × Small (now ys) × (w ≤ 1048576) ⌝ }
-    ensures { λ r. ⌜ r ≡ leadingInRows sense (windowArea (rectsOf (now (rects .entry))) w) (now (xs .entry)) (now (ys .entry)) (spotAt (windowArea (rectsOf (now (rects .entry))) w) 0 0) ⌝ }
+    ensures { λ r. ⌜ r ≡ spotAt (windowArea (rectsOf (now (rects .entry))) w) 0 0 ⌝ }
 {
     let area = geometry::area(
         rects,
@@ -235,7 +235,16 @@ fn search(rects: &[u64], w: u64, sense: Sense, xs: &[u64], ys: &[u64]) -> Spot
             y2: w,
         },
     );
-    let mut best = Spot { area, x: 0, y: 0 };
+    Spot { area, x: 0, y: 0 }
+}
+
+// Tries the windows at every listed x and y, after the one at (0, 0).
+fn search(rects: &[u64], w: u64, sense: Sense, xs: &[u64], ys: &[u64]) -> Spot
+    requires { ⌜ Drawn (now rects) ⌝ }
+    requires { ⌜ Small (now xs) × Small (now ys) × (w ≤ 1048576) ⌝ }
+    ensures { λ r. ⌜ r ≡ leadingInRows sense (windowArea (rectsOf (now (rects .entry))) w) (now (xs .entry)) (now (ys .entry)) (spotAt (windowArea (rectsOf (now (rects .entry))) w) 0 0) ⌝ }
+{
+    let mut best = first_window(rects, w);
     let mut i: usize = 0;
     while i < ys.len() {
         best = search_row(rects, w, sense, xs, ys[i], best);

@@ -7,10 +7,12 @@ use native.Mathlib.Omega.{arith}
 use lib.ListN.{length, getD, take, drop, set, length-append, length-drop}
 use Rattle.geometry.specs.declared.Rect.{Rect}
 use Rattle.geometry.specs.Layout.{coveredArea, rectsOf, rectAt, Drawn}
-use Rattle.geometry.specs.Overlaps.{common, part, rowsPart, stripOf, columnsPart, narrowed, stripSum, StripSmall, Written, Front}
+use Rattle.geometry.specs.Overlaps.{common, part, rowsPart, stripOf, columnsPart, narrowed, stripSum, StripSmall}
+use Rattle.buffers.specs.Written.{Written, Front}
 use Rattle.geometry.proofs.Overlaps.{part-full, part-none, part-either, part-sum, strip-is-area}
 use Rattle.geometry.proofs.Tables.{three-at, rects-next, rects-end, rects-few}
-use Rattle.geometry.proofs.Fronts.{three-written, nothing-written, FrontSoFar, front-moves, front-ends, front-take}
+use Rattle.buffers.proofs.Writing.{three-stored, none-stored}
+use Rattle.buffers.proofs.Fronts.{FrontSoFar, front-moves, front-ends, front-take}
 
 -- ---- one rectangle
 
@@ -20,10 +22,10 @@ part-short met a b h = part-either met a b h (λ l. length l ≤ 3) (λ p. omega
 -- what the code leaves where the rectangle meets what is asked for, and where it does not
 module _ (l : List ℕ) (at met a b h : ℕ) where
   pub part-written : 0 < met → at + 3 ≤ length l → Written l at (part met a b h) (set (set (set l at a) (at + 1) b) (at + 2) h) (at + 3)
-  part-written p fits = rw (part-full met a b h p) (three-written l at a b h fits)
+  part-written p fits = rw (part-full met a b h p) (three-stored l at a b h fits)
 
   pub no-part-written : met ≤ 0 → Written l at (part met a b h) l at
-  no-part-written p = rw (part-none met a b h p) (nothing-written l at)
+  no-part-written p = rw (part-none met a b h p) (none-stored l at)
 
 -- ---- the strip of some rows
 

@@ -56,13 +56,3 @@ stripSum (a ∷ b ∷ h ∷ s) x1 x2 = common a b x1 x2 * h + stripSum s x1 x2
 pub record StripSmall (strip : List ℕ) : Type 0 where
   pub few : length strip ≤ 3072
   pub small : (i : ℕ) → getD strip i 0 ≤ 1048576
-
--- the list w was written into a lent buffer at a place, and the rest of it is as it was; r is the place after it
-pub record Written (before : List ℕ) (at : ℕ) (w after : List ℕ) (r : ℕ) : Type 0 where
-  pub next : r ≡ at + length w
-  pub kept : after ≡ take at before ++ w ++ drop (at + length w) before
-
--- the list w was written at the front of a lent buffer, and the rest of it is as it was; r is w's length
-pub record Front (before w after : List ℕ) (r : ℕ) : Type 0 where
-  pub count : r ≡ length w
-  pub kept : after ≡ w ++ drop (length w) before

@@ -5,7 +5,8 @@ ghost use mathlib.Core.Path.{_≡_};
 ghost use mathlib.Core.List.{[], _∷_};
 ghost use lib.ListN.{length, getD};
 ghost use Rattle.geometry.specs.Layout.{rectsOf, rectAt, coveredArea, sharesSquare, Drawn};
-ghost use Rattle.geometry.specs.Overlaps.{common, overlap, part, rowsPart, columnsPart, stripOf, narrowed, stripSum, StripSmall, Written, Front};
+ghost use Rattle.geometry.specs.Overlaps.{common, overlap, part, rowsPart, columnsPart, stripOf, narrowed, stripSum, StripSmall};
+ghost use Rattle.buffers.specs.Written.{Written, Front};
 ghost use Rattle.geometry.specs.Extreme.{better, replaced};
 
 // The unit squares from x1 to before x2 and from y1 to before y2: a drawn

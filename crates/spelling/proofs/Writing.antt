@@ -11,55 +11,16 @@ use lib.Dec.{eqb, ltb}
 use lib.ListN.{length, getD, set, take, drop, length-append, length-take, length-drop, length-set, take-append-drop, drop-of-length-le}
 use lib.Seq.{drop-cons, drop-drop, take-at, drop-append-add, set-split, length-take-le}
 use Rattle.spelling.specs.Decimal.{decimal}
-use Rattle.spelling.specs.Pattern.{isPlace, spell, written, Written}
+use Rattle.buffers.specs.Written.{written, Written}
+use Rattle.buffers.proofs.Writing.{written-none, written-length, written-then, written-chain, one-stored}
+use Rattle.spelling.specs.Pattern.{isPlace, spell}
 use Rattle.spelling.proofs.Numerals.{both, decimal-small, decimal-large, decimal-nonempty}
 use Rattle.spelling.proofs.Patterns.{spell-place, spell-byte, spell-none}
-
--- ---- the laws of `written`
-
-pub written-none : (l : List ℕ) (at : ℕ) → written l at [] ≡ l
-written-none l at = rw (append-nil (take at l), add-zero at) (take-append-drop at l)
-
-pub written-length : (l : List ℕ) (at : ℕ) (w : List ℕ) → at + length w ≤ length l → length (written l at w) ≡ length l
-written-length l at w h =
-    length-append (take at l ++ w) (drop (at + length w) l)
-    ∙ omega (arith, length-append (take at l) w, length-take-le at l (omega arith), length-drop (at + length w) l)
-
--- two texts written one behind the other are the joined text written
-pub written-then : (l : List ℕ) (at : ℕ) (u w : List ℕ) → at + length u ≤ length l → written (written l at u) (at + length u) w ≡ written l at (u ++ w)
-written-then l at u w h =
-    ap₂ (λ (x y : List ℕ). x ++ w ++ y) (take-at (take at l ++ u) (drop (at + length u) l) (at + length u) front) behind
-    ∙ ap₂ (λ (x y : List ℕ). x ++ y) (append-assoc (take at l) u w) (ap (λ (n : ℕ). drop n l) place)
-  where
-    front : length (take at l ++ u) ≡ at + length u
-    front = length-append (take at l) u ∙ omega (arith, length-take-le at l (omega arith))
-
-    place : at + length u + length w ≡ at + length (u ++ w)
-    place = omega (arith, length-append u w)
-
-    behind : drop (at + length u + length w) (written l at u) ≡ drop (at + length u + length w) l
-    behind =
-        ap (λ (n : ℕ). drop (n + length w) (written l at u)) (sym front)
-        ∙ drop-append-add (take at l ++ u) (drop (at + length u) l) (length w)
-        ∙ drop-drop (length w) (at + length u) l
-
--- for a caller that writes several texts in a row
-pub written-chain : (l : List ℕ) (at : ℕ) (u w m m′ : List ℕ) (r r′ : ℕ) → at + length u ≤ length l → Written l at u m r → Written m r w m′ r′ → Written l at (u ++ w) m′ r′
-written-chain l at u w m m′ r r′ h a b =
-    record {
-      buffer = b .buffer ∙ ap₂ (λ (x : List ℕ) (n : ℕ). written x n w) (a .buffer) (a .place) ∙ written-then l at u w h;
-      place = omega (arith, a .place, b .place, length-append u w);
-    }
-
--- one byte stored
-pub written-byte : (l : List ℕ) (at b : ℕ) → at < length l → Written l at (b ∷ []) (set l at b) (at + 1)
-written-byte l at b h =
-    record { buffer = set-split l at b h ∙ sym (append-assoc (take at l) (b ∷ []) (drop (at + 1) l) ∙ rw (add-one at)); place = refl }
 
 -- ---- a number, its last digit behind the others
 
 pub one-digit : (l : List ℕ) (at n b : ℕ) → n < 10 → b ≡ 48 + n → at + length (decimal n) ≤ length l → Written l at (decimal n) (set l at b) (at + 1)
-one-digit l at n b h e f = rw (decimal-small n h, ← e) (written-byte l at b (omega (arith, decimal-nonempty n)))
+one-digit l at n b h e f = rw (decimal-small n h, ← e) (one-stored l at b (omega (arith, decimal-nonempty n)))
 
 module _ (l : List ℕ) (at n : ℕ) (h : 10 ≤ n) (fits : at + length (decimal n) ≤ length l) where
   longer : length (decimal n) ≡ length (decimal (n / 10)) + 1
@@ -77,7 +38,7 @@ module _ (l : List ℕ) (at n : ℕ) (h : 10 ≤ n) (fits : at + length (decimal
 
     pub last-digit : (b : ℕ) → b ≡ 48 + n % 10 → Written l at (decimal n) (set m last b) (last + 1)
     last-digit b e =
-        rw (decimal-large n h, ← e) (written-chain l at (decimal (n / 10)) (b ∷ []) m (set m last b) last (last + 1) others-fit others (written-byte m last b last-fits))
+        rw (decimal-large n h, ← e) (written-chain l at (decimal (n / 10)) (b ∷ []) m (set m last b) last (last + 1) others-fit others (one-stored m last b last-fits))
 
 -- ---- a pattern, byte by byte
 
@@ -145,7 +106,7 @@ module _ (p v l : List ℕ) (at : ℕ) (out : List ℕ) (to k j : ℕ) (inv : Wr
       byte-fits = omega (arith, piece-fits (getD p j 0 ∷ []) k byte-piece)
 
       pub byte-written : WrittenTo p v l at (set out to (getD p j 0)) (to + 1) k (j + 1)
-      byte-written = piece-written (getD p j 0 ∷ []) k byte-piece (set out to (getD p j 0)) (to + 1) more (inv .in-values) (written-byte out to (getD p j 0) byte-fits)
+      byte-written = piece-written (getD p j 0 ∷ []) k byte-piece (set out to (getD p j 0)) (to + 1) more (inv .in-values) (one-stored out to (getD p j 0) byte-fits)
 
   pub all-written : length p ≤ j → Written l at (spell p v) out to
   unfolding spell

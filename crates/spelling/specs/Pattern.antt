@@ -50,12 +50,3 @@ readAs most (c ∷ p) (b ∷ s) =
 abbrev pub asReading : Option (List ℕ) → Reading
 asReading none = record { ok = false; count = 0; values = replicate 8 0 }
 asReading (some ns) = record { ok = true; count = length ns; values = ns ++ replicate (8 - length ns) 0 }
-
--- a buffer with a text at a place, and before and behind it as it was
-abbrev pub written : (buffer : List ℕ) (at : ℕ) (text : List ℕ) → List ℕ
-written l at w = take at l ++ w ++ drop (at + length w) l
-
--- what writing a text leaves in a buffer, and the place after it
-pub record Written (before : List ℕ) (at : ℕ) (text after : List ℕ) (next : ℕ) : Type 0 where
-  pub buffer : after ≡ written before at text
-  pub place : next ≡ at + length text

@@ -7,13 +7,12 @@ ghost use lib.Dec.{ltb};
 ghost use lib.ListN.{length, drop};
 ghost use Rattle.spelling.specs.Text.{lineLength};
 ghost use Rattle.spelling.specs.Decimal.{decimal, digitsOf, digitFirst, spells, asNumeral};
-ghost use Rattle.spelling.specs.Pattern.{isPlace, places, spell, readAs, asReading, Written};
-
-// The most numbers that one pattern asks for.
-pub const PLACES: usize = 8;
+ghost use Rattle.spelling.specs.Pattern.{isPlace, places, spell, readAs, asReading};
+ghost use Rattle.buffers.specs.Written.{Written};
 
 // What reading a line against a pattern gives: whether the line is the
-// pattern's, and its numbers in order, 0 behind them.
+// pattern's, and its numbers in order, 0 behind them. No pattern asks for more
+// than eight.
 pub struct Reading {
     pub ok: bool,
     pub count: usize,

@@ -10,7 +10,7 @@ use lib.Dec.{leb, ltb, eqb, lit≤}
 use lib.ListN.{length, take, drop, getD, length-append}
 use lib.Seq.{take-at, length-take-le}
 use Rattle.geometry.specs.Layout.{coveredArea}
-use Rattle.geometry.specs.Overlaps.{Front}
+use Rattle.buffers.specs.Written.{Front}
 use Rattle.fill.specs.Eligible.{tile, fillableArea}
 use Rattle.spelling.specs.Text.{bytes}
 use Rattle.spelling.specs.Pattern.{spell}
@@ -104,10 +104,6 @@ printed-refusal file before text d p bad after next w = go (outcomeOf file) p
               ∙ ap (λ (t : List ℕ). t ++ drop (length t) text) same
               ∙ ap (λ (l : List ℕ). refusal number line ++ drop (length (refusal number line)) l) (q .buffer);
         }
-
--- a text at the front of a buffer lies within it
-pub front-within : {before text after : List ℕ} {r : ℕ} → Front before text after r → r ≤ length after
-front-within {before} {text} f = omega (arith, f .count, ap length (f .kept), length-append text (drop (length text) before))
 
 -- ---- a reply as one number
 

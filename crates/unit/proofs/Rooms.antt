@@ -4,8 +4,9 @@ use mathlib.Core.Path.{_≡_, subst, subst⁻¹}
 use mathlib.Core.List.{List, [], _++_}
 use native.Mathlib.Omega.{arith}
 use lib.ListN.{length, length-append}
-use Rattle.spelling.specs.Pattern.{spell, Written}
-use Rattle.spelling.proofs.Writing.{written-chain}
+use Rattle.buffers.specs.Written.{Written}
+use Rattle.spelling.specs.Pattern.{spell}
+use Rattle.buffers.proofs.Writing.{written-chain}
 use Rattle.unit.specs.Room.{WrittenIn}
 use Rattle.unit.proofs.Length.{spell-bare}
 

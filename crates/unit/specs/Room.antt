@@ -5,7 +5,7 @@ use mathlib.Core.List.{List, _++_}
 use lib.ListN.{length, take, drop}
 use Rattle.geometry.specs.Layout.{Drawn, rectsOf}
 use Rattle.fill.specs.Limits.{Planned}
-use Rattle.spelling.specs.Pattern.{Written}
+use Rattle.buffers.specs.Written.{Written}
 use Rattle.jobfile.specs.declared.Head.{Head}
 use Rattle.jobfile.specs.declared.Job.{Job}
 use Rattle.jobfile.specs.declared.Turn.the-variants.{Done}

@@ -11,9 +11,6 @@ ghost use Rattle.jobfile.specs.File.{outcomeOf};
 ghost use Rattle.unit.specs.Answering.{answerOf, textOf};
 ghost use Rattle.unit.specs.Room.{WrittenIn, jobStanding, Readable, Rendering};
 
-// The longest answer: 20 digits to each number.
-pub const TEXT: usize = 464;
-
 // What rendering a file gives: number and line of its fault, or the length of
 // its answer.
 pub struct Rendered {

@@ -11,7 +11,8 @@ use Rattle.geometry.specs.declared.Sense.{Sense}
 use Rattle.geometry.specs.declared.Sense.the-variants.{Greatest, Least}
 use Rattle.geometry.specs.Extreme.{bestInRow}
 use Rattle.geometry.specs.Layout.{Drawn, rectsOf}
-use Rattle.geometry.specs.Overlaps.{StripSmall, Front}
+use Rattle.buffers.specs.Written.{Front}
+use Rattle.geometry.specs.Overlaps.{StripSmall}
 use Rattle.geometry.proofs.Strips.{front-small, front-area}
 use Rattle.extremes.specs.Exact.{windowArea}
 use Rattle.zoom.specs.declared.Grid.{Grid}

@@ -85,11 +85,6 @@ level-done s rs g before best far new new′ z a e r =
 
 -- ---- the run, level by level
 
-pub first-area : (rs : List Rect) (w area : ℕ) → area ≡ coveredArea rs (record { x1 = 0; y1 = 0; x2 = w; y2 = w }) →
-    _≡_ {A = Spot} (record { area = area; x = 0; y = 0 }) (spotAt (windowArea rs w) 0 0)
-first-area rs w area e =
-    ap (λ (a : ℕ). record { area = a; x = 0; y = 0 }) (e ∙ ap (λ (k : ℕ). coveredArea rs (record { x1 = 0; y1 = 0; x2 = k; y2 = k })) (sym (zero-add w)))
-
 -- the code's three tests
 abbrev endTests : (met late last : Bool) (first second third : Quick) → Ending
 endTests met late last first second third =

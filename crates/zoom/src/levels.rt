@@ -1,9 +1,8 @@
 // Levels, one after the other.
 ghost use Prim.Native.Nat.{_+_, _*_, _≤_};
 ghost use mathlib.Core.Path.{_≡_};
-ghost use Rattle.geometry.specs.Extreme.{spotAt};
 ghost use Rattle.geometry.specs.Layout.{rectsOf, Drawn};
-ghost use Rattle.extremes.specs.Exact.{windowArea, extreme};
+ghost use Rattle.extremes.specs.Exact.{extreme};
 ghost use Rattle.zoom.specs.Run.{lastLevel, startsOn, farArea, levelOf, lowEnd, highEnd, isMet, quickRun};
 ghost use Rattle.zoom.specs.Passing.{Harmless, flagsInRows};
 ghost use Rattle.zoom.specs.Grid.{AtStart, endingOf};
@@ -14,7 +13,6 @@ use crate::Level;
 use crate::Quick;
 use crate::bounds;
 use crate::standard;
-use geometry::Rect;
 use geometry::Sense;
 use geometry::Spot;
 
@@ -32,23 +30,6 @@ fn starts_on(n: u64, w: u64, t: u64) -> u64
     ensures { λ r. ⌜ r ≡ startsOn n w t ⌝ }
 {
     (n - w) / t + 1
-}
-
-// The window at the origin, which stands before the first level.
-fn first_window(rects: &[u64], w: u64) -> Spot
-    requires { ⌜ Drawn (now rects) ⌝ }
-    ensures { λ r. ⌜ r ≡ spotAt (windowArea (rectsOf (now (rects .entry))) w) 0 0 ⌝ }
-{
-    let area = geometry::area(
-        rects,
-        Rect {
-            x1: 0,
-            y1: 0,
-            x2: w,
-            y2: w,
-        },
-    );
-    Spot { area, x: 0, y: 0 }
 }
 
 // One level, in two passes: F must be known before a start is kept or flagged.
@@ -154,7 +135,7 @@ pub(crate) fn run(sense: Sense, rects: &[u64], n: u64, w: u64, e: u64, v: u64, m
     let z = last_level(w);
     let mut old = [0u8; 262144];
     let mut new = [0u8; 262144];
-    let mut before = first_window(rects, w);
+    let mut before = extremes::first_window(rects, w);
     let mut side: u64 = 0;
     let mut t = w;
     let mut j: u64 = 0;

@@ -2,15 +2,15 @@
 use borrow.Author.Needs.{needs}
 use mathlib.Core.Path.{sym}
 use lib.Seq.{length-take-le}
-use Rattle.unit.proofs.Replying.{front-within}
+use Rattle.buffers.proofs.Fronts.{front-fits}
 use Rattle.boundaries.proofs.show.Statement.{statement}
 use Rattle.boundaries.proofs.show.Tie as tie
 
 array-share-prefix-text : tie.Need-array-share-prefix-text
-array-share-prefix-text c = front-within (c .report .ensures)
+array-share-prefix-text c = front-fits _ _ _ _ (c .report .ensures)
 
 slice-aggregate-write-all : tie.Need-slice-aggregate-write-all
-slice-aggregate-write-all c = let r = c .before .report in sym (length-take-le (r .result) (r .last .1 .0) (front-within (r .ensures)))
+slice-aggregate-write-all c = let r = c .before .report in sym (length-take-le (r .result) (r .last .1 .0) (front-fits _ _ _ _ (r .ensures)))
 
 pub show-spec : {M : Type 1} → statement M
 show-spec =

@@ -1,4 +1,4 @@
-use Rattle.geometry.proofs.Fronts.{front-fits, front-count}
+use Rattle.buffers.proofs.Fronts.{front-fits, front-count}
 use Rattle.extremes.proofs.Tried.{candidates-small}
 use Rattle.extremes.proofs.Searches.{extreme-found}
 use native.Mathlib.Omega.{arith}

@@ -12,19 +12,21 @@ use Rattle.extremes.proofs.search.Statement.{statement}
 use Rattle.extremes.proofs.search.Tie as tie
 
 abbrev Inv-loop : tie.InvT-loop
-Inv-loop rects w sense xs ys area best₀ i₀ best i =
+Inv-loop rects w sense xs ys best₀ i₀ best i =
     (i ≤ length ys)
     × (leadingInRows sense (windowArea (rectsOf rects) w) xs (drop i ys) best
     ≡ leadingInRows sense (windowArea (rectsOf rects) w) xs ys (spotAt (windowArea (rectsOf rects) w) 0 0))
 
 abbrev μ-loop : tie.MeasureT-loop
-μ-loop rects w sense xs ys area best₀ i₀ best i = length ys - i
+μ-loop rects w sense xs ys best₀ i₀ best i = length ys - i
 
-area-requires : tie.Need-area-requires Inv-loop μ-loop
-area-requires c κs = search needs
+first-window-requires : tie.Need-first-window-requires Inv-loop μ-loop
+first-window-requires c κs = search needs
 
 loop-holds : tie.Need-loop-holds Inv-loop μ-loop
-loop-holds c = (omega arith, search rows-start)
+loop-holds c =
+    let a = c .before .before .before .before .args in
+    (omega arith, rows-start (windowArea (rectsOf (a .rects .now)) (a .w)) (a .sense) (a .xs .now) (a .ys .now) _ (c .first-window .ensures))
 
 mul-search-row : tie.Need-mul-search-row Inv-loop μ-loop
 mul-search-row c = search needs
@@ -53,7 +55,7 @@ search-spec =
     (tie.spec
     Inv-loop
     μ-loop
-    area-requires
+    first-window-requires
     loop-holds
     mul-search-row
     shared-slice-read-search-row

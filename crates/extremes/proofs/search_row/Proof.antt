@@ -1,4 +1,4 @@
-use Rattle.geometry.proofs.Fronts.{front-fits, front-count}
+use Rattle.buffers.proofs.Fronts.{front-fits, front-count}
 use Rattle.extremes.proofs.Steps.{strip-taken, strip-row}
 use borrow.Author.Needs.{needs}
 use Rattle.extremes.proofs.search_row.Statement.{statement}

@@ -5,7 +5,7 @@ use native.Mathlib.Omega.{arith}
 use borrow.Author.Needs.{needs}
 use lib.ListN.{length}
 use Rattle.geometry.specs.Overlaps.{narrowed}
-use Rattle.geometry.proofs.Fronts.{FrontSoFar, front-starts}
+use Rattle.buffers.proofs.Fronts.{FrontSoFar, front-starts}
 use Rattle.geometry.proofs.Strips.{narrow-next, narrow-end}
 use Rattle.geometry.proofs.narrow.Statement.{statement}
 use Rattle.geometry.proofs.narrow.Tie as tie

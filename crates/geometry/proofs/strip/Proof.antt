@@ -4,7 +4,7 @@ use Prim.Native.Nat.{_-_}
 use native.Mathlib.Omega.{arith}
 use borrow.Author.Needs.{needs}
 use lib.ListN.{length}
-use Rattle.geometry.proofs.Fronts.{FrontSoFar, front-starts}
+use Rattle.buffers.proofs.Fronts.{FrontSoFar, front-starts}
 use Rattle.geometry.proofs.Strips.{stripIn, strip-next, strip-end}
 use Rattle.geometry.proofs.strip.Statement.{statement}
 use Rattle.geometry.proofs.strip.Tie as tie

@@ -2,7 +2,7 @@
 use native.Mathlib.Omega.{arith}
 use borrow.Author.Needs.{needs}
 use Rattle.geometry.specs.Layout.{rectsOf}
-use Rattle.geometry.proofs.Fronts.{front-fits, front-count}
+use Rattle.buffers.proofs.Fronts.{front-fits, front-count}
 use Rattle.zoom.specs.Run.{farArea}
 use Rattle.zoom.proofs.Passes.{start-inside, row-above, row-place}
 use Rattle.zoom.proofs.Rows.{reads-far, harmless-far, far-row-by-strip}

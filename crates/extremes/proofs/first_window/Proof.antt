@@ -1,9 +1,9 @@
--- `zoom::levels::first_window` meets its contract. Assumes nothing.
+-- `extremes::first_window` meets its contract. Assumes nothing.
 use borrow.Author.Needs.{needs}
 use Rattle.geometry.specs.Layout.{rectsOf}
-use Rattle.zoom.proofs.Zooming.{first-area}
-use Rattle.zoom.proofs.levels.first_window.Statement.{statement}
-use Rattle.zoom.proofs.levels.first_window.Tie as tie
+use Rattle.extremes.proofs.Steps.{first-area}
+use Rattle.extremes.proofs.first_window.Statement.{statement}
+use Rattle.extremes.proofs.first_window.Tie as tie
 
 returns : tie.Need-returns
 returns c =

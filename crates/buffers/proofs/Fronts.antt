@@ -1,28 +1,20 @@
--- A list written into a lent buffer: at a place, at its front, and at its front by a loop over a table.
-use Prim.Native.Nat.{ℕ, _+_, _≤_}
+-- A list written at the front of a buffer, at once or by a loop over a table.
+use Prim.Native.Nat.{ℕ, _+_, _-_, _≤_}
 use mathlib.Core.Path.{_≡_, refl, sym, ap, ap₂, _∙_}
-use mathlib.Core.List.{List, [], _∷_, _++_, append-nil, append-assoc}
-use native.Mathlib.Nat.{add-zero}
-use native.Mathlib.Numerals.{add-one, add-two}
+use mathlib.Core.List.{List, [], _++_, append-nil, append-assoc}
 use native.Mathlib.Omega.{arith}
-use lib.ListN.{length, take, drop, set, length-append, length-drop, take-append-drop}
-use lib.Seq.{sets-eq, take-at, drop-at, drop-drop, length-take-le}
-use Rattle.geometry.specs.Overlaps.{Written, Front}
+use lib.ListN.{length, take, drop, length-append, length-drop, take-append-drop}
+use lib.Seq.{take-at, drop-at, drop-append-add, drop-drop, length-take-le}
+use Rattle.buffers.specs.Written.{written, Written, Front}
+use Rattle.buffers.proofs.Writing.{written-length}
 
--- ---- at a place
+-- ---- what is at the front
 
--- three stores are a list written at a place
-pub three-written : (l : List ℕ) (at a b h : ℕ) → at + 3 ≤ length l → Written l at (a ∷ b ∷ h ∷ []) (set (set (set l at a) (at + 1) b) (at + 2) h) (at + 3)
-three-written l at a b h p = record { next = refl; kept = rw (add-one, add-two) (sets-eq (a ∷ b ∷ h ∷ []) l at p) }
-
-pub nothing-written : (l : List ℕ) (at : ℕ) → Written l at [] l at
-nothing-written l at =
-    record {
-      next = sym (add-zero at);
-      kept = sym (rw (add-zero, append-nil) (take-append-drop at l));
-    }
-
--- ---- at the front
+pub front-same : (out : List ℕ) (count : ℕ) → count ≤ length out → Front out (take count out) out count
+front-same out count h = record {
+  count = sym (length-take-le count out h);
+  kept = rw (length-take-le count out h) (sym (take-append-drop count out));
+}
 
 pub front-take : (before w after : List ℕ) (r : ℕ) → Front before w after r → take r after ≡ w
 front-take before w after r p = ap (take r) (p .kept) ∙ take-at w (drop (length w) before) r (sym (p .count))
@@ -32,6 +24,17 @@ front-fits before w after r p = omega (arith, p .count, ap length (p .kept), len
 
 pub front-count : (before w after : List ℕ) (r : ℕ) → Front before w after r → r ≡ length (take r after)
 front-count before w after r p = p .count ∙ ap length (sym (front-take before w after r p))
+
+pub front-chain : (before l mid m after : List ℕ) (k r : ℕ) → Front before l mid k → Front mid m after r → length l ≤ length m → Front before m after r
+front-chain before l mid m after k r f g h = record { count = g .count; kept = g .kept ∙ ap (λ (t : List ℕ). m ++ t) rest }
+  where
+    more : length l + (length m - length l) ≡ length m
+    more = omega arith
+
+    rest : drop (length m) mid ≡ drop (length m) before
+    rest =
+        rw (← more, f .kept)
+        (drop-append-add l (drop (length l) before) (length m - length l) ∙ drop-drop (length m - length l) (length l) before)
 
 -- ---- a list that a loop over a table writes at the front of a buffer
 
@@ -48,19 +51,17 @@ front-starts f t out = record { whole = refl; rest = refl; same = refl; behind =
 
 module _ (l : List ℕ) (at : ℕ) (w m : List ℕ) (r : ℕ) (p : Written l at w m r) (fits : r ≤ length l) where
   head-length : length (take at l ++ w) ≡ r
-  head-length = omega (arith, length-append (take at l) w, length-take-le at l (omega arith), p .next)
+  head-length = omega (arith, length-append (take at l) w, length-take-le at l (omega arith), p .place)
 
   written-take : take r m ≡ take at l ++ w
-  written-take = ap (take r) (p .kept) ∙ take-at (take at l ++ w) (drop (at + length w) l) r head-length
+  written-take = ap (take r) (p .buffer) ∙ take-at (take at l ++ w) (drop (at + length w) l) r head-length
 
   written-drop : drop r m ≡ drop r l
   written-drop =
-      ap (drop r) (p .kept) ∙ drop-at (take at l ++ w) (drop (at + length w) l) r head-length ∙ ap (λ (k : ℕ). drop k l) (sym (p .next))
+      ap (drop r) (p .buffer) ∙ drop-at (take at l ++ w) (drop (at + length w) l) r head-length ∙ ap (λ (k : ℕ). drop k l) (sym (p .place))
 
-  written-length : length m ≡ length l
-  written-length =
-      ap length (p .kept)
-      ∙ omega (arith, length-append (take at l ++ w) (drop (at + length w) l), head-length, length-drop (at + length w) l, p .next)
+  same-length : length m ≡ length l
+  same-length = ap length (p .buffer) ∙ written-length l at w (omega (arith, p .place))
 
 later-drop : (a b : List ℕ) (at n : ℕ) → drop at a ≡ drop at b → drop (at + n) a ≡ drop (at + n) b
 later-drop a b at n e = sym (drop-drop n at a) ∙ ap (drop n) e ∙ drop-drop n at b
@@ -78,16 +79,16 @@ module _ (f : List ℕ → List ℕ) (t before out : List ℕ) (at i : ℕ) (s :
             ∙ s .whole;
         rest =
             written-drop out at one m r p fits
-            ∙ ap (λ (k : ℕ). drop k out) (p .next)
+            ∙ ap (λ (k : ℕ). drop k out) (p .place)
             ∙ later-drop out before at (length one) (s .rest)
-            ∙ ap (λ (k : ℕ). drop k before) (sym (p .next));
-        same = written-length out at one m r p fits ∙ s .same;
-        behind = omega (arith, p .next, s .behind);
+            ∙ ap (λ (k : ℕ). drop k before) (sym (p .place));
+        same = same-length out at one m r p fits ∙ s .same;
+        behind = omega (arith, p .place, s .behind);
         within = more;
       }
     where
       fits : r ≤ length out
-      fits = omega (arith, p .next, s .behind, s .same)
+      fits = omega (arith, p .place, s .behind, s .same)
 
   pub front-ends : f (drop i t) ≡ [] → Front before (f t) out at
   front-ends done =
