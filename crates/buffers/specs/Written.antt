@@ -13,7 +13,11 @@ pub record Written (before : List ℕ) (at : ℕ) (l after : List ℕ) (next : �
   pub buffer : after ≡ written before at l
   pub place : next ≡ at + length l
 
+-- a buffer with a list at its front, and behind it as it was
+abbrev pub atFront : (l buffer : List ℕ) → List ℕ
+atFront l b = l ++ drop (length l) b
+
 -- what writing a list at the front leaves, and how many were written
 pub record Front (before l after : List ℕ) (r : ℕ) : Type 0 where
   pub count : r ≡ length l
-  pub kept : after ≡ l ++ drop (length l) before
+  pub kept : after ≡ atFront l before

@@ -16,7 +16,8 @@ use Rattle.jobfile.proofs.Files.{Comes, ends, faulty, unfed, unended, Faulty, l
 use Rattle.jobfile.proofs.Accepted.{AcceptedFacts, accepted-facts, padded-front, table-front, amount-room}
 use Rattle.unit.specs.declared.render.Rendered.{Rendered}
 use Rattle.unit.specs.Answering.{answerOf, textOf}
-use Rattle.unit.specs.Promise.{Promises}
+use Rattle.unit.specs.Whole.{replyTo, replyNumber}
+use Rattle.unit.specs.Promise.{Promises, Demand3, Demand3OfReply}
 use Rattle.unit.specs.Room.{WrittenIn, Ready, jobStanding, Readable, asRendered, renderedIn, Rendering}
 use Rattle.unit.proofs.Demand.{Runs, promises-kept}
 use Rattle.unit.proofs.Running.{tiles-few}
@@ -37,7 +38,7 @@ facts-run st f =
     }
 
 -- demand 3, for every accepted file
-pub demand-3 : (file : List ℕ) (st : Standing) → outcomeOf file ≡ accepted st → Promises st (answerOf st)
+pub demand-3 : Demand3
 demand-3 file st e = promises-kept st (facts-run st (accepted-facts file st e))
 
 facts-ready : (st : Standing) → AcceptedFacts st → Ready (st .head) (tableOf (st .shapes)) (st .amounts)
@@ -99,6 +100,13 @@ faulty-positive file (lines h c) number line e z = comes-positive c number line 
 
 pub refused-positive : (file : List ℕ) (number line : ℕ) → outcomeOf file ≡ refused number line → number ≡ 0 → ⊥
 refused-positive file number line e z = faulty-positive file (refused-as file number line e) number line refl z
+
+pub demand-3-of-reply : Demand3OfReply
+demand-3-of-reply file room good = go (outcomeOf file) refl
+  where
+    go : (o : Outcome) → outcomeOf file ≡ o → (st : Standing) × (outcomeOf file ≡ accepted st) × Promises st (answerOf st)
+    go (accepted st) e = (st, e, demand-3 file st e)
+    go (refused number line) e = absurd (refused-positive file number line e (sym (ap (λ (o : Outcome). replyNumber (replyTo o room)) e) ∙ good))
 
 -- ---- what rendering leaves
 

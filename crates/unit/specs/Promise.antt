@@ -1,19 +1,26 @@
--- Demand 3: what the answer to an accepted job promises, whatever its shapes and numbers. proofs/Demand.antt proves it for every accepted file.
-use Prim.Native.Nat.{ℕ, _+_, _-_, _*_, _≤_}
+-- Demand 3: what the answer to an accepted job promises, whatever its shapes and numbers. An answer that is an enum is spoken of by the
+-- paper's number and values. `demand-3` and `demand-3-of-reply` in proofs/Accepting.antt prove it for every accepted file.
+use Prim.Native.Nat.{ℕ, _+_, _-_, _*_, _≤_, _<_}
 use mathlib.Core.Path.{_≡_}
 use mathlib.Core.Bool.{Bool}
+use mathlib.Core.List.{List, [], _∷_}
+use mathlib.Core.Logic.{_⊎_}
 use lib.Dec.{T}
 use Rattle.geometry.specs.declared.Spot.{Spot}
 use Rattle.extremes.specs.declared.Extremes.{Extremes}
 use Rattle.extremes.specs.Exact.{windowArea}
-use Rattle.zoom.specs.declared.End.the-variants.{Met}
 use Rattle.zoom.specs.declared.Quick.{Quick}
+use Rattle.zoom.specs.Run.{endNumber}
 use Rattle.fill.specs.declared.Bound.{Bound}
-use Rattle.fill.specs.declared.Verdict.the-variants.{Safe, Broken}
+use Rattle.fill.specs.declared.Verdict.{Verdict}
+use Rattle.fill.specs.Judge.{boundNumber, verdictNumbers}
 use Rattle.fill.specs.Placement.{Placement, placedSum, keeps}
 use Rattle.jobfile.specs.Forms.{tileSide, tilesAcross}
 use Rattle.jobfile.specs.Faults.{Standing}
+use Rattle.jobfile.specs.File.{accepted, outcomeOf}
 use Rattle.unit.specs.declared.run.Answer.{Answer}
+use Rattle.unit.specs.Answering.{answerOf}
+use Rattle.unit.specs.Whole.{replyFor, replyNumber}
 
 -- (x, y) is a whole-number window position
 pub record Position (st : Standing) (x y : ℕ) : Type 0 where
@@ -29,6 +36,10 @@ pub record RealWindow (st : Standing) (p : Spot) : Type 0 where
   pub position : Position st (p .x) (p .y)
   pub area : p .area ≡ areaAt st (p .x) (p .y)
 
+-- no position with the same area has a smaller y, or the same y and a smaller x
+abbrev pub Earliest : Standing → Spot → Type 0
+Earliest st p = (x y : ℕ) → Position st x y → areaAt st x y ≡ p .area → (p .y < y) ⊎ ((p .y ≡ y) × (p .x ≤ x))
+
 -- |a − b|
 abbrev pub distance : ℕ → ℕ → ℕ
 distance a b = (a - b) + (b - a)
@@ -42,12 +53,15 @@ abbrev pub KeepsAt : Standing → (ℕ → ℕ → Bool) → Bound → (x y : �
 KeepsAt st chosen b x y =
     T (keeps b (st .head .lower) (st .head .upper) (st .head .window) (placedSum (st .shapes) chosen (st .head .window) x y))
 
--- the exact run: M is the area of the window it names, and no position has more; its minimum likewise, and no position has less
+-- the exact run: M is the area of the window it names, no position has more, and none before it has as much; its minimum likewise, and no
+-- position has less
 pub record ExactPromise (st : Standing) (e : Extremes) : Type 0 where
   pub greatest : RealWindow st (e .greatest)
   pub none-more : (x y : ℕ) → Position st x y → areaAt st x y ≤ e .greatest .area
+  pub greatest-first : Earliest st (e .greatest)
   pub least : RealWindow st (e .least)
   pub none-less : (x y : ℕ) → Position st x y → e .least .area ≤ areaAt st x y
+  pub least-first : Earliest st (e .least)
 
 -- the quick run, beside the exact run's M: its floor F is the area of the window it names, F ≤ M ≤ C, and "met" for accuracy E bounds the
 -- midpoint, 1000 × |F + C − 2M| ≤ 2 × E × M
@@ -55,18 +69,27 @@ pub record QuickPromise (st : Standing) (q : Quick) (m : ℕ) : Type 0 where
   pub floor : RealWindow st (q .last .window)
   pub floor-below : q .last .window .area ≤ m
   pub ceiling-above : m ≤ q .last .bound
-  pub met : q .end ≡ Met → 1000 * distance (q .last .window .area + q .last .bound) (2 * m) ≤ 2 * st .head .accuracy * m
+  pub met : endNumber (q .end) ≡ 0 → 1000 * distance (q .last .window .area + q .last .bound) (2 * m) ≤ 2 * st .head .accuracy * m
 
 -- the fill, whichever eligible unit squares it takes: after "safe" every position keeps both bounds, on the tile grid or off it; after
 -- "broken" the named window is a position and breaks the bound named; and there is at least one placement
-pub record FillPromise (st : Standing) (a : Answer) : Type 0 where
-  pub safe : a .verdict ≡ Safe → (chosen : ℕ → ℕ → Bool) → Places st chosen → (b : Bound) (x y : ℕ) → Position st x y → KeepsAt st chosen b x y
-  pub broken-there : (b : Bound) (i j : ℕ) → a .verdict ≡ Broken b i j → Position st (i * tileSide (st .head)) (j * tileSide (st .head))
-  pub broken : (b : Bound) (i j : ℕ) → a .verdict ≡ Broken b i j → (chosen : ℕ → ℕ → Bool) → Places st chosen →
+pub record FillPromise (st : Standing) (v : Verdict) : Type 0 where
+  pub safe : verdictNumbers v ≡ 0 ∷ [] → (chosen : ℕ → ℕ → Bool) → Places st chosen → (b : Bound) (x y : ℕ) → Position st x y → KeepsAt st chosen b x y
+  pub broken-there : (b : Bound) (i j : ℕ) → verdictNumbers v ≡ 1 ∷ boundNumber b ∷ i ∷ j ∷ [] → Position st (i * tileSide (st .head)) (j * tileSide (st .head))
+  pub broken : (b : Bound) (i j : ℕ) → verdictNumbers v ≡ 1 ∷ boundNumber b ∷ i ∷ j ∷ [] → (chosen : ℕ → ℕ → Bool) → Places st chosen →
       KeepsAt st chosen b (i * tileSide (st .head)) (j * tileSide (st .head)) → ⊥
   pub placeable : (chosen : ℕ → ℕ → Bool) × Places st chosen
 
 pub record Promises (st : Standing) (a : Answer) : Type 0 where
   pub exact : ExactPromise st (a .exact)
   pub quick : QuickPromise st (a .quick) (a .exact .greatest .area)
-  pub fill : FillPromise st a
+  pub fill : FillPromise st (a .verdict)
+
+-- the demand, for every file that is accepted, whatever buffer is lent
+abbrev pub Demand3 : Type 0
+Demand3 = (file : List ℕ) (st : Standing) → outcomeOf file ≡ accepted st → Promises st (answerOf st)
+
+-- and for every file to which the reply has the number 0
+abbrev pub Demand3OfReply : Type 0
+Demand3OfReply = (file : List ℕ) (room : ℕ) → replyNumber (replyFor file room) ≡ 0 →
+    (st : Standing) × (outcomeOf file ≡ accepted st) × Promises st (answerOf st)

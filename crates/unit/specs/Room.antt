@@ -1,11 +1,11 @@
 -- What the unit's own functions ask and leave. A buyer need not read it.
 use Prim.Native.Nat.{ℕ, _*_, _≤_}
 use mathlib.Core.Path.{_≡_}
-use mathlib.Core.List.{List, _++_}
-use lib.ListN.{length, take, drop}
+use mathlib.Core.List.{List}
+use lib.ListN.{length, take}
 use Rattle.geometry.specs.Layout.{Drawn, rectsOf}
 use Rattle.fill.specs.Limits.{Planned}
-use Rattle.buffers.specs.Written.{Written}
+use Rattle.buffers.specs.Written.{Written, atFront}
 use Rattle.jobfile.specs.declared.Head.{Head}
 use Rattle.jobfile.specs.declared.Job.{Job}
 use Rattle.jobfile.specs.declared.Turn.the-variants.{Done}
@@ -61,7 +61,7 @@ asRendered (accepted st) = record { fault = 0; line = 0; length = length (textOf
 -- a buffer with an accepted file's answer at its front, else as it was
 abbrev pub renderedIn : Outcome → List ℕ → List ℕ
 renderedIn (refused number line) buffer = buffer
-renderedIn (accepted st) buffer = textOf (answerOf st) ++ drop (length (textOf (answerOf st))) buffer
+renderedIn (accepted st) buffer = atFront (textOf (answerOf st)) buffer
 
 -- what rendering a file leaves
 pub record Rendering (o : Outcome) (before after : List ℕ) (r : Rendered) : Type 0 where

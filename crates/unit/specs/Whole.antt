@@ -1,9 +1,10 @@
 -- The whole unit: from a file's bytes and the lent buffer to the reply and the buffer afterwards.
 use Prim.Native.Nat.{ℕ, _+_, _*_}
 use mathlib.Core.Bool.{true, false}
-use mathlib.Core.List.{List, [], _∷_, _++_}
+use mathlib.Core.List.{List, [], _∷_}
 use lib.Dec.{leb}
-use lib.ListN.{length, drop}
+use lib.ListN.{length}
+use Rattle.buffers.specs.Written.{atFront}
 use Rattle.spelling.specs.Text.{bytes}
 use Rattle.spelling.specs.Pattern.{spell}
 use Rattle.jobfile.specs.File.{Outcome, refused, accepted, outcomeOf}
@@ -21,7 +22,7 @@ replyTo (accepted st) room =
 abbrev pub bufferAfter : Outcome → List ℕ → List ℕ
 bufferAfter (refused number line) buffer = buffer
 bufferAfter (accepted st) buffer =
-    let t = textOf (answerOf st) in elim (leb (length t) (length buffer)) [ true ↦ t ++ drop (length t) buffer | false ↦ buffer ]
+    let t = textOf (answerOf st) in elim (leb (length t) (length buffer)) [ true ↦ atFront t buffer | false ↦ buffer ]
 
 -- from a file's bytes and the buffer's length to the reply, and from the file and the buffer to the buffer afterwards
 abbrev pub replyFor : (file : List ℕ) (room : ℕ) → Reply

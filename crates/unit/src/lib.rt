@@ -10,7 +10,7 @@ use text::write_word;
 ghost use Prim.Native.Nat.{_≤_};
 ghost use mathlib.Core.Path.{_≡_};
 ghost use lib.ListN.{length};
-ghost use Rattle.buffers.specs.Written.{Front};
+ghost use Rattle.buffers.specs.Written.{atFront};
 ghost use Rattle.unit.specs.Whole.{replyFor, bufferFor, printedFor, replyNumber, replyValue, codeOf};
 
 // What the unit replies: the answer's length, or the number and line of the
@@ -42,9 +42,10 @@ pub fn answer(file: &[u8], out: &mut [u8]) -> Reply
 }
 
 // What the program prints for a file, at the front of a buffer that always
-// holds it: the longest answer, with 20 digits to each number, has 464 bytes.
+// holds it: with 20 digits to each number no answer is longer than 464 bytes.
 pub fn report(file: &[u8], out: &mut [u8; 464]) -> usize
-    ensures { λ r. ⌜ Front (now (out .entry)) (printedFor (now (file .entry))) (now (out .exit)) r ⌝ }
+    ensures length { λ r. ⌜ r ≡ length (printedFor (now (file .entry))) ⌝ }
+    ensures buffer { λ r. ⌜ now (out .exit) ≡ atFront (printedFor (now (file .entry))) (now (out .entry)) ⌝ }
 {
     let done = render(file, out);
     let fault = done.fault;
@@ -56,7 +57,7 @@ pub fn report(file: &[u8], out: &mut [u8; 464]) -> usize
 }
 
 // A reply as one number: its length, or 100000 times the fault's number and its
-// line.
+// line. A length is below 2^63 and a line at most 60,001: the bound is their sum.
 fn code(r: Reply) -> u64
     requires { ⌜ (replyNumber r ≤ 13) × (replyValue r ≤ 9223372036854835809) ⌝ }
     ensures { λ n. ⌜ n ≡ codeOf r ⌝ }
