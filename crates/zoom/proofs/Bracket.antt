@@ -11,7 +11,7 @@ use Rattle.geometry.specs.declared.Rect.{Rect}
 use Rattle.geometry.specs.declared.Spot.{Spot}
 use Rattle.geometry.specs.declared.Sense.{Sense}
 use Rattle.geometry.specs.declared.Sense.the-variants.{Greatest, Least}
-use Rattle.geometry.specs.Extreme.{better, spotAt, replaced}
+use Rattle.geometry.specs.Extreme.{better, spotAt, replaced, bestInRows}
 use Rattle.geometry.specs.Layout.{coveredArea, window}
 use Rattle.geometry.proofs.Totals.{small-product}
 use Rattle.geometry.proofs.Overlaps.{area-small}
@@ -25,7 +25,7 @@ use Rattle.zoom.specs.declared.Quick.{Quick}
 use Rattle.zoom.specs.Run.{lastLevel, tileSide, startsOn, bloated, shrunk, farArea, levelOf, lowEnd, highEnd, isMet, exactLevel, afterLevel, runFrom, quickRun}
 use Rattle.zoom.specs.Passing.{NoBetter}
 use Rattle.zoom.specs.Grid.{AtStart}
-use Rattle.zoom.proofs.Folds.{no-better-trans, rows-are, rows-stay, rows-see}
+use Rattle.zoom.proofs.Folds.{no-better-trans, replaced-stays, replaced-area, rows-are, rows-see, rows-replace}
 use Rattle.zoom.proofs.Tiles.{tile-halves, tile-positive}
 use Rattle.zoom.proofs.Starts.{Below, at-start, start-stays, start-fits, start-below, half-start, window-within, far-halves}
 
@@ -50,15 +50,33 @@ placed-no-better s rs n w b p = rw (p .area) (extreme-best s rs n w .none-better
 
 -- ---- a level
 
-pub level-at-start : (s : Sense) (rs : List Rect) (n w t : ℕ) (b : Spot) → AtStart rs n w t b → AtStart rs n w t (levelOf s rs n w t b .window)
+-- the code seeks the level's window from the one before on, and so names the one that the definition names
+pub level-searches : (s : Sense) (rs : List Rect) (n w t : ℕ) (b : Spot) →
+    levelOf s rs n w t b .window ≡ bestInRows s (windowArea rs w) t (startsOn n w t) (startsOn n w t) b
 unfolding levelOf
+level-searches s rs n w t b = sym (rows-replace s (windowArea rs w) t (startsOn n w t) (startsOn n w t) b (omega arith) (omega arith))
+
+pub level-at-start : (s : Sense) (rs : List Rect) (n w t : ℕ) (b : Spot) → AtStart rs n w t b → AtStart rs n w t (levelOf s rs n w t b .window)
 level-at-start s rs n w t b a =
-    rows-are s (windowArea rs w) t (startsOn n w t) (startsOn n w t) b (AtStart rs n w t) a (λ i j h k. at-start rs n w t i j h k)
+    rw (level-searches s rs n w t b)
+    (rows-are s (windowArea rs w) t (startsOn n w t) (startsOn n w t) b (AtStart rs n w t) a (λ i j h k. at-start rs n w t i j h k))
+
+-- F, the area of the named window, is the best standard area of the level, where the window before is at a start of it
+pub floor-is-best : (s : Sense) (rs : List Rect) (n w t : ℕ) (b : Spot) → AtStart rs n w t b →
+    levelOf s rs n w t b .window .area ≡ bestInRows s (windowArea rs w) t (startsOn n w t) (startsOn n w t) (spotAt (windowArea rs w) 0 0) .area
+unfolding levelOf
+floor-is-best s rs n w t b a = replaced-area s b best (subst (λ (c : Spot). NoBetter s (c .area) (best .area)) (sym (a .is)) seen)
+  where
+    best : Spot
+    best = bestInRows s (windowArea rs w) t (startsOn n w t) (startsOn n w t) (spotAt (windowArea rs w) 0 0)
+
+    seen : NoBetter s (windowArea rs w (a .column * t) (a .row * t)) (best .area)
+    seen = rows-see s (windowArea rs w) t (startsOn n w t) (startsOn n w t) (spotAt (windowArea rs w) 0 0) (a .column) (a .row) (a .across) (a .down)
 
 -- F never falls
 pub level-keeps : (s : Sense) (rs : List Rect) (n w t : ℕ) (b : Spot) → NoBetter s (b .area) (levelOf s rs n w t b .window .area)
 unfolding levelOf
-level-keeps s rs n w t b = rows-stay s (windowArea rs w) t (startsOn n w t) (startsOn n w t) b
+level-keeps s rs n w t b = replaced-stays s b _
 
 -- C is no worse than any far area, and than any position
 pub level-sees : (s : Sense) (rs : List Rect) (n w t : ℕ) (b : Spot) (i j : ℕ) → i < startsOn n w t → j < startsOn n w t →

@@ -15,7 +15,8 @@ use Rattle.geometry.specs.declared.Rect.{Rect}
 use Rattle.geometry.specs.declared.Spot.{Spot}
 use Rattle.geometry.specs.declared.Sense.{Sense}
 use Rattle.geometry.specs.Layout.{coveredArea, window}
-use Rattle.geometry.specs.Extreme.{spotAt, replaced, bestInRows}
+use Rattle.geometry.specs.Count.{sum, one-if}
+use Rattle.geometry.specs.Extreme.{better, spotAt, replaced, bestInRows}
 use Rattle.extremes.specs.Exact.{windowArea, extreme}
 use Rattle.zoom.specs.declared.Level.{Level}
 use Rattle.zoom.specs.declared.End.the-variants.{Met, Stopped, Exact}
@@ -30,7 +31,7 @@ use Rattle.zoom.specs.Grid.{Sized, AtStart, farInRows, endingOf}
 use Rattle.zoom.proofs.Folds.{no-better-trans, rows-stay}
 use Rattle.zoom.proofs.Tiles.{tile-next, tile-halves, tile-positive}
 use Rattle.zoom.proofs.Starts.{start-stays}
-use Rattle.zoom.proofs.Bracket.{first-start, level-at-start, LevelSmall, level-small}
+use Rattle.zoom.proofs.Bracket.{first-start, level-searches, level-at-start, floor-is-best, LevelSmall, level-small}
 use Rattle.zoom.proofs.PassOver.{bound-from-best, harmless-first, harmless-next}
 use Rattle.zoom.proofs.Passes.{RowsSoFar, far-rows-bound, far-rows-kept}
 
@@ -64,7 +65,8 @@ level-done s rs g before best far new new′ z a e r =
     level = levelOf s rs (g .n) (g .w) (g .t) before
 
     window-is : best ≡ level .window
-    window-is = subst (λ (k : ℕ). best ≡ bestInRows s (windowArea rs (g .w)) (g .t) k k before) (z .count) e
+    window-is =
+        subst (λ (k : ℕ). best ≡ bestInRows s (windowArea rs (g .w)) (g .t) k k before) (z .count) e ∙ sym (level-searches s rs (g .n) (g .w) (g .t) before)
 
     counted : far ≡ farInRows s (level .window .area) (farArea s rs (g .n) (g .w) (g .t)) (g .t) (startsOn (g .n) (g .w) (g .t)) (startsOn (g .n) (g .w) (g .t))
         (record { bound = level .window; kept = 0 })
@@ -78,10 +80,16 @@ level-done s rs g before best far new new′ z a e r =
         ∙ ap (λ (b : Spot). b .area) (far-rows-bound s (level .window .area) (farArea s rs (g .n) (g .w) (g .t)) (g .t) _ _ (record { bound = level .window; kept = 0 }))
         ∙ bound-from-best s rs (g .n) (g .w) (g .t) before (z .tile) (z .inside) a
 
+    kept-against : ℕ → ℕ
+    kept-against f =
+        let k = startsOn (g .n) (g .w) (g .t) in
+        sum k (λ j. sum k (λ i. one-if (better s (farArea s rs (g .n) (g .w) (g .t) (i * g .t) (j * g .t)) f)))
+
     kept-is : far .kept ≡ level .kept
     kept-is =
         ap (λ (b : Far). b .kept) counted
         ∙ far-rows-kept s (level .window .area) (farArea s rs (g .n) (g .w) (g .t)) (g .t) _ _ (record { bound = level .window; kept = 0 }) ∙ zero-add _
+        ∙ ap kept-against (floor-is-best s rs (g .n) (g .w) (g .t) before a)
 
 -- ---- the run, level by level
 

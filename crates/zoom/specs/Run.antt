@@ -44,17 +44,17 @@ abbrev pub farArea : Sense → List Rect → (n w t x y : ℕ) → ℕ
 farArea Greatest rs n w t x y = coveredArea rs (bloated n w t x y)
 farArea Least rs n w t x y = coveredArea rs (shrunk w t x y)
 
--- the level of tile side t, where `before` is the window named by the levels before it:
--- F with its window, replaced only by a strictly larger area; C, the largest bloated area; kept, the starts whose bloated area exceeds F.
--- In a run `before` is always a window at a start of this level, so F is the largest standard area of the level: `first-start`,
--- `level-at-start` and `next-start` in proofs/Bracket.antt.
+-- the level of tile side t, where `before` is the window named by the levels before it. F is the largest standard area of the level, and
+-- `best` its window, in a level the least y, then the least x; it replaces the named window only if strictly larger, so that an earlier
+-- level's window stays on a tie. C is the largest bloated area, kept the number of starts whose bloated area exceeds F.
+-- In a run the area of the named window is F: `floor-is-best` in proofs/Bracket.antt.
 unfoldable pub levelOf : Sense → List Rect → (n w t : ℕ) → Spot → Level
 levelOf s rs n w t before =
     let k = startsOn n w t in
     let far = farArea s rs n w t in
-    let best = bestInRows s (windowArea rs w) t k k before in
+    let best = bestInRows s (windowArea rs w) t k k (spotAt (windowArea rs w) 0 0) in
     record {
-      window = best;
+      window = replaced s before best;
       bound = bestInRows s far t k k (spotAt far 0 0) .area;
       kept = sum k (λ j. sum k (λ i. one-if (better s (far (i * t) (j * t)) (best .area))));
     }
