@@ -22,7 +22,7 @@ use Rattle.extremes.proofs.Promises.{extreme-over-all}
 use Rattle.zoom.specs.declared.End.the-variants.{Met, Stopped, Exact}
 use Rattle.zoom.specs.declared.Level.{Level}
 use Rattle.zoom.specs.declared.Quick.{Quick}
-use Rattle.zoom.specs.Run.{lastLevel, tileSide, startsOn, bloated, shrunk, farArea, levelOf, lowEnd, highEnd, isMet, exactLevel, afterLevel, runFrom, quickRun}
+use Rattle.zoom.specs.Run.{lastLevel, levelTile, startsOn, bloated, shrunk, farArea, levelOf, levelAt, lowEnd, highEnd, isMet, afterLevel, exactEnd, runFrom, quickRun}
 use Rattle.zoom.specs.Passing.{NoBetter}
 use Rattle.zoom.specs.Grid.{AtStart}
 use Rattle.zoom.proofs.Folds.{no-better-trans, replaced-stays, replaced-area, rows-are, rows-see, rows-replace}
@@ -61,22 +61,17 @@ level-at-start s rs n w t b a =
     rw (level-searches s rs n w t b)
     (rows-are s (windowArea rs w) t (startsOn n w t) (startsOn n w t) b (AtStart rs n w t) a (λ i j h k. at-start rs n w t i j h k))
 
--- F, the area of the named window, is the best standard area of the level, where the window before is at a start of it
-pub floor-is-best : (s : Sense) (rs : List Rect) (n w t : ℕ) (b : Spot) → AtStart rs n w t b →
+-- where the window before is at a start of the level
+pub floor-of : (s : Sense) (rs : List Rect) (n w t : ℕ) (b : Spot) → AtStart rs n w t b →
     levelOf s rs n w t b .window .area ≡ bestInRows s (windowArea rs w) t (startsOn n w t) (startsOn n w t) (spotAt (windowArea rs w) 0 0) .area
 unfolding levelOf
-floor-is-best s rs n w t b a = replaced-area s b best (subst (λ (c : Spot). NoBetter s (c .area) (best .area)) (sym (a .is)) seen)
+floor-of s rs n w t b a = replaced-area s b best (subst (λ (c : Spot). NoBetter s (c .area) (best .area)) (sym (a .is)) seen)
   where
     best : Spot
     best = bestInRows s (windowArea rs w) t (startsOn n w t) (startsOn n w t) (spotAt (windowArea rs w) 0 0)
 
     seen : NoBetter s (windowArea rs w (a .column * t) (a .row * t)) (best .area)
     seen = rows-see s (windowArea rs w) t (startsOn n w t) (startsOn n w t) (spotAt (windowArea rs w) 0 0) (a .column) (a .row) (a .across) (a .down)
-
--- F never falls
-pub level-keeps : (s : Sense) (rs : List Rect) (n w t : ℕ) (b : Spot) → NoBetter s (b .area) (levelOf s rs n w t b .window .area)
-unfolding levelOf
-level-keeps s rs n w t b = replaced-stays s b _
 
 -- C is no worse than any far area, and than any position
 pub level-sees : (s : Sense) (rs : List Rect) (n w t : ℕ) (b : Spot) (i j : ℕ) → i < startsOn n w t → j < startsOn n w t →
@@ -93,11 +88,11 @@ level-bounds s rs n w t b x y p q h k =
     (window-within s rs n w t x y (across .start * t) (down .start * t) (omega arith) (omega arith) (across .before) (across .close) (down .before) (down .close))
     (level-sees s rs n w t b (across .start) (down .start) (across .counts) (down .counts))
 
--- C never rises
-pub level-narrows : (s : Sense) (rs : List Rect) (n w t : ℕ) (b c : Spot) → 1 ≤ t →
+-- the best far area is no better where the tile side is half
+far-narrows : (s : Sense) (rs : List Rect) (n w t : ℕ) (b c : Spot) → 1 ≤ t →
     NoBetter s (levelOf s rs n w t b .bound) (levelOf s rs n w (2 * t) c .bound)
 unfolding levelOf
-level-narrows s rs n w t b c p =
+far-narrows s rs n w t b c p =
     rows-are s (farArea s rs n w t) t (startsOn n w t) (startsOn n w t) (spotAt (farArea s rs n w t) 0 0)
     (λ (a : Spot). NoBetter s (a .area) (levelOf s rs n w (2 * t) c .bound)) (rw (zero-mul t) at (each 0 0 (omega arith) (omega arith))) each
   where
@@ -107,7 +102,7 @@ level-narrows s rs n w t b c p =
         (levelOf s rs n w (2 * t) c .bound) (far-halves s rs n w t i j)
         (level-sees s rs n w (2 * t) c (i / 2) (j / 2) (half-start n w t i p h) (half-start n w t j p k))
 
--- ---- the run
+-- ---- a level's bracket
 
 -- low ≤ m ≤ high, and the named window
 pub record Brackets (s : Sense) (rs : List Rect) (n w : ℕ) (v : Level) : Type 0 where
@@ -120,19 +115,22 @@ brackets Greatest rs n w v p h =
     record { window = p; low = ltb-false _ _ (placed-no-better Greatest rs n w (v .window) p); high = ltb-false _ _ h }
 brackets Least rs n w v p h = record { window = p; low = ltb-false _ _ h; high = ltb-false _ _ (placed-no-better Least rs n w (v .window) p) }
 
-pub level-brackets : (s : Sense) (rs : List Rect) (n w t : ℕ) (b : Spot) → 1 ≤ t → w ≤ n → AtStart rs n w t b → Brackets s rs n w (levelOf s rs n w t b)
-level-brackets s rs n w t b p q a =
+brackets-of : (s : Sense) (rs : List Rect) (n w t : ℕ) (b : Spot) → 1 ≤ t → w ≤ n → AtStart rs n w t b → Brackets s rs n w (levelOf s rs n w t b)
+brackets-of s rs n w t b p q a =
     brackets s rs n w (levelOf s rs n w t b) (start-placed rs n w t (levelOf s rs n w t b .window) p (level-at-start s rs n w t b a)) extreme-bounded
   where
     extreme-bounded : NoBetter s (extreme s rs n w .area) (levelOf s rs n w t b .bound)
     extreme-bounded = let m = extreme-placed s rs n w in rw (m .area) (level-bounds s rs n w t b (extreme s rs n w .x) (extreme s rs n w .y) p q (m .across) (m .down))
 
-exact-brackets : (s : Sense) (rs : List Rect) (n w : ℕ) (b : Spot) → Placed rs n w b → Brackets s rs n w (exactLevel s b (extreme s rs n w))
-exact-brackets s rs n w b p = brackets s rs n w (exactLevel s b (extreme s rs n w)) (go (better s (extreme s rs n w .area) (b .area)) refl) (better-self s (extreme s rs n w .area))
+exact-brackets : (s : Sense) (rs : List Rect) (n w j : ℕ) (b : Spot) → Placed rs n w b → Brackets s rs n w (exactEnd s j b (extreme s rs n w) .last)
+exact-brackets s rs n w j b p = brackets s rs n w (exactEnd s j b m .last) (go (better s (m .area) (b .area)) refl) (better-self s (m .area))
   where
-    go : (t : Bool) → better s (extreme s rs n w .area) (b .area) ≡ t → Placed rs n w (replaced s b (extreme s rs n w))
-    go true e = rw (step-better s b (extreme s rs n w) e) (extreme-placed s rs n w)
-    go false e = rw (step-skip s b (extreme s rs n w) e) p
+    m : Spot
+    m = extreme s rs n w
+
+    go : (t : Bool) → better s (m .area) (b .area) ≡ t → Placed rs n w (replaced s b m)
+    go true e = rw (step-better s b m e) (extreme-placed s rs n w)
+    go false e = rw (step-skip s b m e) p
 
 -- 1000 × |low + high − 2m| ≤ 2 × e × m, in both directions
 pub record Accurate (e m low high : ℕ) : Type 0 where
@@ -146,14 +144,73 @@ accurate e m low high h k l = record { above = omega (arith, part); below = omeg
     part = mul-le-mul-left (2 * e) h
 
 -- the window that stands is a start of the first level, and of the next level if of this one
-pub first-start : (rs : List Rect) (n w : ℕ) → AtStart rs n w (tileSide w 0) (spotAt (windowArea rs w) 0 0)
+pub first-start : (rs : List Rect) (n w : ℕ) → AtStart rs n w (levelTile w 0) (spotAt (windowArea rs w) 0 0)
 first-start rs n w =
-    subst (λ (x : ℕ). AtStart rs n w (tileSide w 0) (spotAt (windowArea rs w) x x)) (zero-mul (tileSide w 0))
-    (at-start rs n w (tileSide w 0) 0 0 (omega arith) (omega arith))
+    subst (λ (x : ℕ). AtStart rs n w (levelTile w 0) (spotAt (windowArea rs w) x x)) (zero-mul (levelTile w 0))
+    (at-start rs n w (levelTile w 0) 0 0 (omega arith) (omega arith))
 
-next-start : (rs : List Rect) (n w j : ℕ) (b : Spot) → 1 ≤ w → j < lastLevel w → AtStart rs n w (tileSide w j) b → AtStart rs n w (tileSide w (suc j)) b
+next-start : (rs : List Rect) (n w j : ℕ) (b : Spot) → 1 ≤ w → j < lastLevel w → AtStart rs n w (levelTile w j) b → AtStart rs n w (levelTile w (suc j)) b
 next-start rs n w j b p h a =
-    start-stays rs n w (tileSide w (suc j)) b (tile-positive w (suc j) p h) (subst (λ (t : ℕ). AtStart rs n w t b) (tile-halves w j h) a)
+    start-stays rs n w (levelTile w (suc j)) b (tile-positive w (suc j) p h) (subst (λ (t : ℕ). AtStart rs n w t b) (tile-halves w j h) a)
+
+-- a level's bracket lies in that of another
+pub record Narrows (s : Sense) (v next : Level) : Type 0 where
+  pub low : lowEnd s v ≤ lowEnd s next
+  pub high : highEnd s next ≤ highEnd s v
+
+narrows : (s : Sense) (v next : Level) → NoBetter s (v .window .area) (next .window .area) → NoBetter s (next .bound) (v .bound) → Narrows s v next
+narrows Greatest v next h k = record { low = ltb-false _ _ h; high = ltb-false _ _ k }
+narrows Least v next h k = record { low = ltb-false _ _ k; high = ltb-false _ _ h }
+
+window-stays : (s : Sense) (rs : List Rect) (n w j : ℕ) → NoBetter s (levelAt s rs n w j .window .area) (levelAt s rs n w (suc j) .window .area)
+unfolding levelAt levelOf
+window-stays s rs n w j = replaced-stays s (levelAt s rs n w j .window) _
+
+-- ---- the levels of a run
+
+module _ (s : Sense) (rs : List Rect) (n w : ℕ) (p : 1 ≤ w) where
+  named-start : (j : ℕ) → j ≤ lastLevel w → AtStart rs n w (levelTile w j) (levelAt s rs n w j .window)
+  unfolding levelAt
+  named-start zero h = level-at-start s rs n w (levelTile w 0) _ (first-start rs n w)
+  named-start (suc j) h = level-at-start s rs n w (levelTile w (suc j)) _ (next-start rs n w j _ p h (named-start j (omega arith)))
+
+  -- what holds of a level that follows a window at one of its starts holds of level j
+  each-level : (P : Level → Type 0) (j : ℕ) → j ≤ lastLevel w →
+      ((b : Spot) → 1 ≤ levelTile w j → AtStart rs n w (levelTile w j) b → P (levelOf s rs n w (levelTile w j) b)) → P (levelAt s rs n w j)
+  unfolding levelAt
+  each-level P zero h f = f (spotAt (windowArea rs w) 0 0) (tile-positive w 0 p h) (first-start rs n w)
+  each-level P (suc j) h f = f (levelAt s rs n w j .window) (tile-positive w (suc j) p h) (next-start rs n w j _ p h (named-start j (omega arith)))
+
+  -- F, the area of the named window, is the best standard area at level j
+  pub floor-is-best : (j : ℕ) → j ≤ lastLevel w →
+      let t = levelTile w j in
+      let k = startsOn n w t in
+      levelAt s rs n w j .window .area ≡ bestInRows s (windowArea rs w) t k k (spotAt (windowArea rs w) 0 0) .area
+  floor-is-best j h =
+      let t = levelTile w j in
+      let k = startsOn n w t in
+      each-level (λ (v : Level). v .window .area ≡ bestInRows s (windowArea rs w) t k k (spotAt (windowArea rs w) 0 0) .area) j h
+      (λ b q a. floor-of s rs n w t b a)
+
+  -- F ≤ M ≤ C
+  pub level-brackets : (j : ℕ) → j ≤ lastLevel w → w ≤ n → Brackets s rs n w (levelAt s rs n w j)
+  level-brackets j h l = each-level (Brackets s rs n w) j h (λ b q a. brackets-of s rs n w (levelTile w j) b q l a)
+
+  -- from level j to the next F never falls and C never rises
+  pub level-narrows : (j : ℕ) → j < lastLevel w → Narrows s (levelAt s rs n w j) (levelAt s rs n w (suc j))
+  level-narrows j h = narrows s (levelAt s rs n w j) (levelAt s rs n w (suc j)) keeps lowers
+    where
+      keeps : NoBetter s (levelAt s rs n w j .window .area) (levelAt s rs n w (suc j) .window .area)
+      keeps = window-stays s rs n w j
+
+      lowers : NoBetter s (levelAt s rs n w (suc j) .bound) (levelAt s rs n w j .bound)
+      lowers =
+          each-level (λ (v : Level). NoBetter s (v .bound) (levelAt s rs n w j .bound)) (suc j) h
+          (λ b q _. each-level (λ (v : Level). NoBetter s (levelOf s rs n w (levelTile w (suc j)) b .bound) (v .bound)) j (omega arith)
+          (λ c _ _. subst (λ (t : ℕ). NoBetter s (levelOf s rs n w (levelTile w (suc j)) b .bound) (levelOf s rs n w t c .bound)) (sym (tile-halves w j h))
+          (far-narrows s rs n w (levelTile w (suc j)) b c q)))
+
+-- ---- the run
 
 -- a run's answer: what holds of every level holds of its last one, and "met" means that the level is met
 record Ended (P : Level → Type 0) (s : Sense) (e : ℕ) (q : Quick) : Type 0 where
@@ -171,29 +228,19 @@ after-level P s e v j this next b p = go (isMet s e this) refl (leb v (suc j))
     go false h true = record { holds = b; met = λ e. absurd (let z : _≡_ {A = ℕ} 0 1 = cc in omega arith) }
     go false h false = p
 
-module _ (P : Level → Type 0) (s : Sense) (rs : List Rect) (n w e v : ℕ) (p : 1 ≤ w)
-    (each : (t : ℕ) (b : Spot) → 1 ≤ t → AtStart rs n w t b → P (levelOf s rs n w t b))
-    (exact : (t : ℕ) (b : Spot) → 1 ≤ t → AtStart rs n w t b → P (exactLevel s b (extreme s rs n w))) where
-  run-ends : (left j : ℕ) (b : Spot) → j + left ≡ lastLevel w → AtStart rs n w (tileSide w j) b → Ended P s e (runFrom s rs n w e v left j b)
+module _ (P : Level → Type 0) (s : Sense) (rs : List Rect) (n w e v : ℕ) (each : (j : ℕ) → j ≤ lastLevel w → P (levelAt s rs n w j))
+    (exact : (j : ℕ) → j ≤ lastLevel w → P (exactEnd s j (levelAt s rs n w j .window) (extreme s rs n w) .last)) where
+  run-ends : (left j : ℕ) → j + left ≡ lastLevel w → Ended P s e (runFrom s rs n w e v left j)
   unfolding runFrom
-  run-ends zero j b h a =
-      let this : Level = levelOf s rs n w (tileSide w j) b in
-      let positive : 1 ≤ tileSide w j = tile-positive w j p (omega arith) in
-      after-level P s e v j this (record { end = Exact; levels = suc (suc j); last = exactLevel s (this .window) (extreme s rs n w) })
-      (each (tileSide w j) b positive a)
-      (record {
-        holds = exact (tileSide w j) (this .window) positive (level-at-start s rs n w (tileSide w j) b a);
-        met = λ e. absurd (let z : _≡_ {A = ℕ} 0 1 = cc in omega arith);
-      })
-  run-ends (suc left) j b h a =
-      let this : Level = levelOf s rs n w (tileSide w j) b in
-      after-level P s e v j this (runFrom s rs n w e v left (suc j) (this .window)) (each (tileSide w j) b (tile-positive w j p (omega arith)) a)
-      (run-ends left (suc j) (this .window) (omega arith)
-      (next-start rs n w j (this .window) p (omega arith) (level-at-start s rs n w (tileSide w j) b a)))
+  run-ends zero j h =
+      after-level P s e v j (levelAt s rs n w j) (exactEnd s j (levelAt s rs n w j .window) (extreme s rs n w)) (each j (omega arith))
+      (record { holds = exact j (omega arith); met = λ e. absurd (let z : _≡_ {A = ℕ} 0 1 = cc in omega arith) })
+  run-ends (suc left) j h =
+      after-level P s e v j (levelAt s rs n w j) (runFrom s rs n w e v left (suc j)) (each j (omega arith)) (run-ends left (suc j) (omega arith))
 
   quick-run-ends : Ended P s e (quickRun s rs n w e v)
   unfolding quickRun
-  quick-run-ends = run-ends (lastLevel w) 0 (spotAt (windowArea rs w) 0 0) (omega arith) (first-start rs n w)
+  quick-run-ends = run-ends (lastLevel w) 0 (omega arith)
 
 -- what the quick run promises
 pub record Promised (s : Sense) (rs : List Rect) (n w e : ℕ) (q : Quick) : Type 0 where
@@ -203,8 +250,8 @@ pub record Promised (s : Sense) (rs : List Rect) (n w e : ℕ) (q : Quick) : Typ
 pub quick-run-promises : (s : Sense) (rs : List Rect) (n w e v : ℕ) → 1 ≤ w → w ≤ n → Promised s rs n w e (quickRun s rs n w e v)
 quick-run-promises s rs n w e v p q =
     let ended =
-    quick-run-ends (Brackets s rs n w) s rs n w e v p (λ t b h a. level-brackets s rs n w t b h q a)
-    (λ t b h a. exact-brackets s rs n w b (start-placed rs n w t b h a)) in
+    quick-run-ends (Brackets s rs n w) s rs n w e v (λ j h. level-brackets s rs n w p j h q)
+    (λ j h. exact-brackets s rs n w j (levelAt s rs n w j .window) (level-brackets s rs n w p j h q .window)) in
     record {
       brackets = ended .holds;
       accurate = λ m. accurate e _ _ _ (ended .holds .low) (ended .holds .high) (leb-true _ _ (ended .met m));
@@ -238,8 +285,9 @@ level-small s rs n w t b h k p a =
 
 pub quick-run-small : (s : Sense) (rs : List Rect) (n w e v : ℕ) → 1 ≤ w → w ≤ n → n ≤ 1048576 → LevelSmall (quickRun s rs n w e v .last)
 quick-run-small s rs n w e v p q h =
-    quick-run-ends LevelSmall s rs n w e v p (λ t b l a. level-small s rs n w t b h q l a)
-    (λ t b l a. record {
-      window = placed-small rs n w (replaced s b (extreme s rs n w)) h q (exact-brackets s rs n w b (start-placed rs n w t b l a) .window);
+    quick-run-ends LevelSmall s rs n w e v (λ j l. each-level s rs n w p LevelSmall j l (λ b r a. level-small s rs n w (levelTile w j) b h q r a))
+    (λ j l. record {
+      window = placed-small rs n w (replaced s (levelAt s rs n w j .window) (extreme s rs n w)) h q
+          (exact-brackets s rs n w j (levelAt s rs n w j .window) (level-brackets s rs n w p j l q .window) .window);
       bound = placed-small rs n w (extreme s rs n w) h q (extreme-placed s rs n w);
     }) .holds

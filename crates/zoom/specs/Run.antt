@@ -24,8 +24,8 @@ abbrev pub lastLevel : ℕ → ℕ
 lastLevel w = trailingZeros 4 w
 
 -- the tile side at level j
-abbrev pub tileSide : ℕ → ℕ → ℕ
-tileSide w j = w / 2 ^ j
+abbrev pub levelTile : ℕ → ℕ → ℕ
+levelTile w j = w / 2 ^ j
 
 -- the number of starts on an axis: the multiples of t up to n − w
 abbrev pub startsOn : (n w t : ℕ) → ℕ
@@ -59,6 +59,11 @@ levelOf s rs n w t before =
       kept = sum k (λ j. sum k (λ i. one-if (better s (far (i * t) (j * t)) (best .area))));
     }
 
+-- level j of a run: before it, the window at (0, 0) was named for j = 0, else that of the level before
+unfoldable pub levelAt : Sense → List Rect → (n w j : ℕ) → Level
+levelAt s rs n w zero = levelOf s rs n w (levelTile w 0) (spotAt (windowArea rs w) 0 0)
+levelAt s rs n w (suc j) = levelOf s rs n w (levelTile w (suc j)) (levelAt s rs n w j .window)
+
 -- the lower and the upper end of a level's bracket
 abbrev pub lowEnd : Sense → Level → ℕ
 lowEnd Greatest v = v .window .area
@@ -78,10 +83,6 @@ endNumber Met = 0
 endNumber Stopped = 1
 endNumber Exact = 2
 
--- the exact search as one more level: C = M, the window replaced only if M is better, kept 0; no window passes M, so F = M too
-abbrev pub exactLevel : Sense → Spot → Spot → Level
-exactLevel s before m = record { window = replaced s before m; bound = m .area; kept = 0 }
-
 -- the answer after level j: met; else stopped, if the v levels allowed are done; else what the next level answers
 abbrev pub afterLevel : Sense → (e v j : ℕ) → Level → Quick → Quick
 afterLevel s e v j this next =
@@ -90,20 +91,18 @@ afterLevel s e v j this next =
       | false ↦ elim (leb v (suc j)) [ true ↦ record { end = Stopped; levels = suc j; last = this } | false ↦ next ]
     ]
 
+-- the exact search as one more level after level j: F = C = M, its window m replaces the named one only if M is better, kept is 0
+abbrev pub exactEnd : Sense → (j : ℕ) → (before m : Spot) → Quick
+exactEnd s j before m = record { end = Exact; levels = suc (suc j); last = record { window = replaced s before m; bound = m .area; kept = 0 } }
+
 -- the run from level j on, with `left` levels after it before the exact search
-unfoldable pub runFrom : Sense → List Rect → (n w e v left j : ℕ) → Spot → Quick
-runFrom s rs n w e v zero j before =
-    let this = levelOf s rs n w (tileSide w j) before in
-    let next : Quick = record { end = Exact; levels = suc (suc j); last = exactLevel s (this .window) (extreme s rs n w) } in
-    afterLevel s e v j this next
-runFrom s rs n w e v (suc left) j before =
-    let this = levelOf s rs n w (tileSide w j) before in
-    let next = runFrom s rs n w e v left (suc j) (this .window) in
-    afterLevel s e v j this next
+unfoldable pub runFrom : Sense → List Rect → (n w e v left j : ℕ) → Quick
+runFrom s rs n w e v zero j = let this = levelAt s rs n w j in afterLevel s e v j this (exactEnd s j (this .window) (extreme s rs n w))
+runFrom s rs n w e v (suc left) j = afterLevel s e v j (levelAt s rs n w j) (runFrom s rs n w e v left (suc j))
 
 -- the quick run for an extreme
 unfoldable pub quickRun : Sense → List Rect → (n w e v : ℕ) → Quick
-quickRun s rs n w e v = runFrom s rs n w e v (lastLevel w) 0 (spotAt (windowArea rs w) 0 0)
+quickRun s rs n w e v = runFrom s rs n w e v (lastLevel w) 0
 
 -- density in ten-thousandths: 10000 × (F + C) / (2 × w × w), rounded down
 abbrev pub density : (w f c : ℕ) → ℕ
