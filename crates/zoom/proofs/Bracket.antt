@@ -19,10 +19,10 @@ use Rattle.geometry.proofs.Extremes.{better-self, step-better, step-skip}
 use Rattle.extremes.specs.Exact.{windowArea, extreme}
 use Rattle.extremes.proofs.Searches.{position, extreme-best}
 use Rattle.extremes.proofs.Promises.{extreme-over-all}
-use Rattle.zoom.specs.declared.End.the-variants.{Met, Stopped, Exact}
+use Rattle.zoom.specs.declared.End.the-variants.{Met, Stopped}
 use Rattle.zoom.specs.declared.Level.{Level}
 use Rattle.zoom.specs.declared.Quick.{Quick}
-use Rattle.zoom.specs.Run.{lastLevel, levelTile, startsOn, bloated, shrunk, farArea, levelOf, levelAt, lowEnd, highEnd, isMet, afterLevel, exactEnd, runFrom, quickRun}
+use Rattle.zoom.specs.Run.{lastLevel, levelTile, startsOn, bloated, shrunk, farArea, bestStart, levelOf, levelAt, lowEnd, highEnd, isMet, afterLevel, exactEnd, runFrom, quickRun}
 use Rattle.zoom.specs.Passing.{NoBetter}
 use Rattle.zoom.specs.Grid.{AtStart}
 use Rattle.zoom.proofs.Folds.{no-better-trans, replaced-stays, replaced-area, rows-are, rows-see, rows-replace}
@@ -63,43 +63,43 @@ level-at-start s rs n w t b a =
 
 -- where the window before is at a start of the level
 pub floor-of : (s : Sense) (rs : List Rect) (n w t : ℕ) (b : Spot) → AtStart rs n w t b →
-    levelOf s rs n w t b .window .area ≡ bestInRows s (windowArea rs w) t (startsOn n w t) (startsOn n w t) (spotAt (windowArea rs w) 0 0) .area
+    levelOf s rs n w t b .window .area ≡ bestStart s (windowArea rs w) t (startsOn n w t) .area
 unfolding levelOf
 floor-of s rs n w t b a = replaced-area s b best (subst (λ (c : Spot). NoBetter s (c .area) (best .area)) (sym (a .is)) seen)
   where
     best : Spot
-    best = bestInRows s (windowArea rs w) t (startsOn n w t) (startsOn n w t) (spotAt (windowArea rs w) 0 0)
+    best = bestStart s (windowArea rs w) t (startsOn n w t)
 
     seen : NoBetter s (windowArea rs w (a .column * t) (a .row * t)) (best .area)
     seen = rows-see s (windowArea rs w) t (startsOn n w t) (startsOn n w t) (spotAt (windowArea rs w) 0 0) (a .column) (a .row) (a .across) (a .down)
 
 -- C is no worse than any far area, and than any position
 pub level-sees : (s : Sense) (rs : List Rect) (n w t : ℕ) (b : Spot) (i j : ℕ) → i < startsOn n w t → j < startsOn n w t →
-    NoBetter s (farArea s rs n w t (i * t) (j * t)) (levelOf s rs n w t b .bound)
+    NoBetter s (farArea s rs n w t (i * t) (j * t)) (levelOf s rs n w t b .far)
 unfolding levelOf
 level-sees s rs n w t b i j h k = rows-see s (farArea s rs n w t) t (startsOn n w t) (startsOn n w t) (spotAt (farArea s rs n w t) 0 0) i j h k
 
 pub level-bounds : (s : Sense) (rs : List Rect) (n w t : ℕ) (b : Spot) (x y : ℕ) → 1 ≤ t → w ≤ n → x ≤ n - w → y ≤ n - w →
-    NoBetter s (windowArea rs w x y) (levelOf s rs n w t b .bound)
+    NoBetter s (windowArea rs w x y) (levelOf s rs n w t b .far)
 level-bounds s rs n w t b x y p q h k =
     let across : Below n w t x = start-below n w t x p h in
     let down : Below n w t y = start-below n w t y p k in
-    no-better-trans s (windowArea rs w x y) (farArea s rs n w t (across .start * t) (down .start * t)) (levelOf s rs n w t b .bound)
+    no-better-trans s (windowArea rs w x y) (farArea s rs n w t (across .start * t) (down .start * t)) (levelOf s rs n w t b .far)
     (window-within s rs n w t x y (across .start * t) (down .start * t) (omega arith) (omega arith) (across .before) (across .close) (down .before) (down .close))
     (level-sees s rs n w t b (across .start) (down .start) (across .counts) (down .counts))
 
 -- the best far area is no better where the tile side is half
 far-narrows : (s : Sense) (rs : List Rect) (n w t : ℕ) (b c : Spot) → 1 ≤ t →
-    NoBetter s (levelOf s rs n w t b .bound) (levelOf s rs n w (2 * t) c .bound)
+    NoBetter s (levelOf s rs n w t b .far) (levelOf s rs n w (2 * t) c .far)
 unfolding levelOf
 far-narrows s rs n w t b c p =
     rows-are s (farArea s rs n w t) t (startsOn n w t) (startsOn n w t) (spotAt (farArea s rs n w t) 0 0)
-    (λ (a : Spot). NoBetter s (a .area) (levelOf s rs n w (2 * t) c .bound)) (rw (zero-mul t) at (each 0 0 (omega arith) (omega arith))) each
+    (λ (a : Spot). NoBetter s (a .area) (levelOf s rs n w (2 * t) c .far)) (rw (zero-mul t) at (each 0 0 (omega arith) (omega arith))) each
   where
-    each : (i j : ℕ) → i < startsOn n w t → j < startsOn n w t → NoBetter s (farArea s rs n w t (i * t) (j * t)) (levelOf s rs n w (2 * t) c .bound)
+    each : (i j : ℕ) → i < startsOn n w t → j < startsOn n w t → NoBetter s (farArea s rs n w t (i * t) (j * t)) (levelOf s rs n w (2 * t) c .far)
     each i j h k =
         no-better-trans s (farArea s rs n w t (i * t) (j * t)) (farArea s rs n w (2 * t) (i / 2 * (2 * t)) (j / 2 * (2 * t)))
-        (levelOf s rs n w (2 * t) c .bound) (far-halves s rs n w t i j)
+        (levelOf s rs n w (2 * t) c .far) (far-halves s rs n w t i j)
         (level-sees s rs n w (2 * t) c (i / 2) (j / 2) (half-start n w t i p h) (half-start n w t j p k))
 
 -- ---- a level's bracket
@@ -110,7 +110,7 @@ pub record Brackets (s : Sense) (rs : List Rect) (n w : ℕ) (v : Level) : Type 
   pub low : lowEnd s v ≤ extreme s rs n w .area
   pub high : extreme s rs n w .area ≤ highEnd s v
 
-brackets : (s : Sense) (rs : List Rect) (n w : ℕ) (v : Level) → Placed rs n w (v .window) → NoBetter s (extreme s rs n w .area) (v .bound) → Brackets s rs n w v
+brackets : (s : Sense) (rs : List Rect) (n w : ℕ) (v : Level) → Placed rs n w (v .window) → NoBetter s (extreme s rs n w .area) (v .far) → Brackets s rs n w v
 brackets Greatest rs n w v p h =
     record { window = p; low = ltb-false _ _ (placed-no-better Greatest rs n w (v .window) p); high = ltb-false _ _ h }
 brackets Least rs n w v p h = record { window = p; low = ltb-false _ _ h; high = ltb-false _ _ (placed-no-better Least rs n w (v .window) p) }
@@ -119,7 +119,7 @@ brackets-of : (s : Sense) (rs : List Rect) (n w t : ℕ) (b : Spot) → 1 ≤ t 
 brackets-of s rs n w t b p q a =
     brackets s rs n w (levelOf s rs n w t b) (start-placed rs n w t (levelOf s rs n w t b .window) p (level-at-start s rs n w t b a)) extreme-bounded
   where
-    extreme-bounded : NoBetter s (extreme s rs n w .area) (levelOf s rs n w t b .bound)
+    extreme-bounded : NoBetter s (extreme s rs n w .area) (levelOf s rs n w t b .far)
     extreme-bounded = let m = extreme-placed s rs n w in rw (m .area) (level-bounds s rs n w t b (extreme s rs n w .x) (extreme s rs n w .y) p q (m .across) (m .down))
 
 exact-brackets : (s : Sense) (rs : List Rect) (n w j : ℕ) (b : Spot) → Placed rs n w b → Brackets s rs n w (exactEnd s j b (extreme s rs n w) .last)
@@ -158,7 +158,7 @@ pub record Narrows (s : Sense) (v next : Level) : Type 0 where
   pub low : lowEnd s v ≤ lowEnd s next
   pub high : highEnd s next ≤ highEnd s v
 
-narrows : (s : Sense) (v next : Level) → NoBetter s (v .window .area) (next .window .area) → NoBetter s (next .bound) (v .bound) → Narrows s v next
+narrows : (s : Sense) (v next : Level) → NoBetter s (v .window .area) (next .window .area) → NoBetter s (next .far) (v .far) → Narrows s v next
 narrows Greatest v next h k = record { low = ltb-false _ _ h; high = ltb-false _ _ k }
 narrows Least v next h k = record { low = ltb-false _ _ k; high = ltb-false _ _ h }
 
@@ -184,13 +184,10 @@ module _ (s : Sense) (rs : List Rect) (n w : ℕ) (p : 1 ≤ w) where
   -- F, the area of the named window, is the best standard area at level j
   pub floor-is-best : (j : ℕ) → j ≤ lastLevel w →
       let t = levelTile w j in
-      let k = startsOn n w t in
-      levelAt s rs n w j .window .area ≡ bestInRows s (windowArea rs w) t k k (spotAt (windowArea rs w) 0 0) .area
+      levelAt s rs n w j .window .area ≡ bestStart s (windowArea rs w) t (startsOn n w t) .area
   floor-is-best j h =
       let t = levelTile w j in
-      let k = startsOn n w t in
-      each-level (λ (v : Level). v .window .area ≡ bestInRows s (windowArea rs w) t k k (spotAt (windowArea rs w) 0 0) .area) j h
-      (λ b q a. floor-of s rs n w t b a)
+      each-level (λ (v : Level). v .window .area ≡ bestStart s (windowArea rs w) t (startsOn n w t) .area) j h (λ b q a. floor-of s rs n w t b a)
 
   -- F ≤ M ≤ C
   pub level-brackets : (j : ℕ) → j ≤ lastLevel w → w ≤ n → Brackets s rs n w (levelAt s rs n w j)
@@ -203,11 +200,11 @@ module _ (s : Sense) (rs : List Rect) (n w : ℕ) (p : 1 ≤ w) where
       keeps : NoBetter s (levelAt s rs n w j .window .area) (levelAt s rs n w (suc j) .window .area)
       keeps = window-stays s rs n w j
 
-      lowers : NoBetter s (levelAt s rs n w (suc j) .bound) (levelAt s rs n w j .bound)
+      lowers : NoBetter s (levelAt s rs n w (suc j) .far) (levelAt s rs n w j .far)
       lowers =
-          each-level (λ (v : Level). NoBetter s (v .bound) (levelAt s rs n w j .bound)) (suc j) h
-          (λ b q _. each-level (λ (v : Level). NoBetter s (levelOf s rs n w (levelTile w (suc j)) b .bound) (v .bound)) j (omega arith)
-          (λ c _ _. subst (λ (t : ℕ). NoBetter s (levelOf s rs n w (levelTile w (suc j)) b .bound) (levelOf s rs n w t c .bound)) (sym (tile-halves w j h))
+          each-level (λ (v : Level). NoBetter s (v .far) (levelAt s rs n w j .far)) (suc j) h
+          (λ b q _. each-level (λ (v : Level). NoBetter s (levelOf s rs n w (levelTile w (suc j)) b .far) (v .far)) j (omega arith)
+          (λ c _ _. subst (λ (t : ℕ). NoBetter s (levelOf s rs n w (levelTile w (suc j)) b .far) (levelOf s rs n w t c .far)) (sym (tile-halves w j h))
           (far-narrows s rs n w (levelTile w (suc j)) b c q)))
 
 -- ---- the run
@@ -269,7 +266,7 @@ far-small Least rs n w t x y h k = box-small rs (shrunk w t x y) (omega arith) (
 -- what 64 bits ask of a level's numbers
 pub record LevelSmall (v : Level) : Type 0 where
   pub window : v .window .area ≤ 1099511627776
-  pub bound : v .bound ≤ 1099511627776
+  pub far : v .far ≤ 1099511627776
 
 placed-small : (rs : List Rect) (n w : ℕ) (b : Spot) → n ≤ 1048576 → w ≤ n → Placed rs n w b → b .area ≤ 1099511627776
 placed-small rs n w b h k p = rw (p .area) (box-small rs (window w (b .x) (b .y)) (omega arith) (omega arith))
@@ -279,7 +276,7 @@ unfolding levelOf
 level-small s rs n w t b h k p a =
     record {
       window = placed-small rs n w (levelOf s rs n w t b .window) h k (start-placed rs n w t (levelOf s rs n w t b .window) p (level-at-start s rs n w t b a));
-      bound = rows-are s (farArea s rs n w t) t (startsOn n w t) (startsOn n w t) (spotAt (farArea s rs n w t) 0 0) (λ (c : Spot). c .area ≤ 1099511627776)
+      far = rows-are s (farArea s rs n w t) t (startsOn n w t) (startsOn n w t) (spotAt (farArea s rs n w t) 0 0) (λ (c : Spot). c .area ≤ 1099511627776)
           (far-small s rs n w t 0 0 h k) (λ i j p q. far-small s rs n w t (i * t) (j * t) h k);
     }
 
@@ -289,5 +286,5 @@ quick-run-small s rs n w e v p q h =
     (λ j l. record {
       window = placed-small rs n w (replaced s (levelAt s rs n w j .window) (extreme s rs n w)) h q
           (exact-brackets s rs n w j (levelAt s rs n w j .window) (level-brackets s rs n w p j l q .window) .window);
-      bound = placed-small rs n w (extreme s rs n w) h q (extreme-placed s rs n w);
+      far = placed-small rs n w (extreme s rs n w) h q (extreme-placed s rs n w);
     }) .holds

@@ -128,10 +128,10 @@ passed-over s rs n w t i j best t′ x′ y′ p q h k hx kx hy ky b =
         (far-within s rs n w t (i * t) (j * t) t′ x′ y′ hx kx hy ky) b
 
 -- C may be sought from F on: the best window lies in the far window of its own start
-pub bound-from-best : (s : Sense) (rs : List Rect) (n w t : ℕ) (b : Spot) → 1 ≤ t → w ≤ n → AtStart rs n w t b →
-    bestInRows s (farArea s rs n w t) t (startsOn n w t) (startsOn n w t) (levelOf s rs n w t b .window) .area ≡ levelOf s rs n w t b .bound
+pub far-from-best : (s : Sense) (rs : List Rect) (n w t : ℕ) (b : Spot) → 1 ≤ t → w ≤ n → AtStart rs n w t b →
+    bestInRows s (farArea s rs n w t) t (startsOn n w t) (startsOn n w t) (levelOf s rs n w t b .window) .area ≡ levelOf s rs n w t b .far
 unfolding levelOf
-bound-from-best s rs n w t b p q a =
+far-from-best s rs n w t b p q a =
     rows-forget s far t k k (levelOf s rs n w t b .window) (spotAt far 0 0) (seen (level-at-start s rs n w t b a))
     (rw (zero-mul t) at (rows-see s far t k k (levelOf s rs n w t b .window) 0 0 (omega arith) (omega arith)))
   where

@@ -1,7 +1,7 @@
 -- Tile sides: each is twice the next, down to the last level.
-use Prim.Native.Nat.{ℕ, zero, suc, _+_, _*_, _/_, _%_, _^_, _≤_, _<_, min}
+use Prim.Native.Nat.{ℕ, zero, suc, _*_, _/_, _%_, _^_, _≤_, _<_}
 use mathlib.Core.Path.{_≡_, refl, sym, ap, _∙_}
-use native.Mathlib.Nat.{div-one, pow-suc, pow-succ', div-div-eq-div-mul, add-suc}
+use native.Mathlib.Nat.{div-one, pow-suc, pow-succ', div-div-eq-div-mul}
 use native.Mathlib.Omega.{arith}
 use lib.Count.{trailingZeros, under}
 use Rattle.zoom.specs.Run.{lastLevel, levelTile}
@@ -28,22 +28,8 @@ tile-even (suc k) w j h = go (λ i. tile-even k (w / 2) i) (w % 2) refl h
     go ih (suc d) e l = absurd (omega arith)
 
 pub tile-halves : (w j : ℕ) → j < lastLevel w → levelTile w j ≡ 2 * levelTile w (suc j)
-tile-halves w j h = omega (arith, tile-next w j, tile-even 4 w j h)
+tile-halves w j h = omega (arith, tile-next w j, tile-even 64 w j (omega arith))
 
 pub tile-positive : (w j : ℕ) → 1 ≤ w → j ≤ lastLevel w → 1 ≤ levelTile w j
 tile-positive w zero h k = rw div-one h
 tile-positive w (suc j) h k = omega (arith, tile-halves w j k, tile-positive w j h (omega arith))
-
--- the last level is the number of trailing zero bits of a 64-bit number, capped at 4
-zeros-capped : (a b w : ℕ) → min a (trailingZeros (b + a) w) ≡ trailingZeros a w
-unfolding trailingZeros
-zeros-capped zero b w = omega arith
-zeros-capped (suc a) b w = rw (add-suc b a) (go (w % 2) (zeros-capped a b (w / 2)))
-  where
-    go : (d : ℕ) → min a (trailingZeros (b + a) (w / 2)) ≡ trailingZeros a (w / 2) →
-        min (suc a) (under d (trailingZeros (b + a) (w / 2))) ≡ under d (trailingZeros a (w / 2))
-    go zero e = omega (arith, e)
-    go (suc d) e = omega arith
-
-pub last-level-capped : (w : ℕ) → min 4 (trailingZeros 64 w) ≡ lastLevel w
-last-level-capped w = zeros-capped 4 60 w

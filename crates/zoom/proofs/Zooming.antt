@@ -8,13 +8,11 @@ use native.Mathlib.Numerals.{add-one, add-two}
 use native.Mathlib.Omega.{arith}
 use borrow.Author.Tests.{leb-true, leb-false, le-leb, lt-leb}
 use lib.Dec.{leb}
-use lib.Count.{trailing-le}
 use lib.ListN.{length, take, drop, replicate, length-replicate}
 use lib.Seq.{take-length, drop-length}
 use Rattle.geometry.specs.declared.Rect.{Rect}
 use Rattle.geometry.specs.declared.Spot.{Spot}
 use Rattle.geometry.specs.declared.Sense.{Sense}
-use Rattle.geometry.specs.Layout.{coveredArea, window}
 use Rattle.geometry.specs.Count.{sum, one-if}
 use Rattle.geometry.specs.Extreme.{better, spotAt, replaced, bestInRows}
 use Rattle.extremes.specs.Exact.{windowArea, extreme}
@@ -32,7 +30,7 @@ use Rattle.zoom.proofs.Folds.{no-better-trans, rows-stay}
 use Rattle.zoom.proofs.Tiles.{tile-next, tile-halves, tile-positive}
 use Rattle.zoom.proofs.Starts.{start-stays}
 use Rattle.zoom.proofs.Bracket.{first-start, level-searches, level-at-start, floor-of, LevelSmall, level-small}
-use Rattle.zoom.proofs.PassOver.{bound-from-best, harmless-first, harmless-next}
+use Rattle.zoom.proofs.PassOver.{far-from-best, harmless-first, harmless-next}
 use Rattle.zoom.proofs.Passes.{RowsSoFar, far-rows-bound, far-rows-kept}
 
 -- ---- a level by its two passes
@@ -53,11 +51,11 @@ pub record LevelDone (s : Sense) (rs : List Rect) (n w t : ℕ) (before : Spot) 
 pub level-done : (s : Sense) (rs : List Rect) (g : Grid) (before best : Spot) (far : Far) (new new′ : List ℕ) → Sized g → AtStart rs (g .n) (g .w) (g .t) before →
     best ≡ bestInRows s (windowArea rs (g .w)) (g .t) (g .starts) (g .starts) before →
     RowsSoFar s (best .area) (farArea s rs (g .n) (g .w) (g .t)) (g .t) (g .starts) (g .starts) (record { bound = best; kept = 0 }) far new new′ →
-    LevelDone s rs (g .n) (g .w) (g .t) before (record { window = best; bound = far .bound .area; kept = far .kept }) new new′
+    LevelDone s rs (g .n) (g .w) (g .t) before (record { window = best; far = far .bound .area; kept = far .kept }) new new′
 unfolding levelOf
 level-done s rs g before best far new new′ z a e r =
     record {
-      answer = λ i. record { window = window-is i; bound = bound-is i; kept = kept-is i };
+      answer = λ i. record { window = window-is i; far = far-is i; kept = kept-is i };
       flags = subst (λ (k : ℕ). new′ ≡ flagsInRows s (best .area) (farArea s rs (g .n) (g .w) (g .t)) (g .t) k k new) (z .count) (r .flags);
     }
   where
@@ -74,11 +72,11 @@ level-done s rs g before best far new new′ z a e r =
         r .search
         ∙ ap₂ (λ (b : Spot) (k : ℕ). farInRows s (b .area) (farArea s rs (g .n) (g .w) (g .t)) (g .t) k k (record { bound = b; kept = 0 })) window-is (z .count)
 
-    bound-is : far .bound .area ≡ level .bound
-    bound-is =
+    far-is : far .bound .area ≡ level .far
+    far-is =
         ap (λ (b : Far). b .bound .area) counted
         ∙ ap (λ (b : Spot). b .area) (far-rows-bound s (level .window .area) (farArea s rs (g .n) (g .w) (g .t)) (g .t) _ _ (record { bound = level .window; kept = 0 }))
-        ∙ bound-from-best s rs (g .n) (g .w) (g .t) before (z .tile) (z .inside) a
+        ∙ far-from-best s rs (g .n) (g .w) (g .t) before (z .tile) (z .inside) a
 
     kept-against : ℕ → ℕ
     kept-against f =
@@ -165,9 +163,9 @@ module _ (s : Sense) (e v z j : ℕ) (this : Level) (m : Spot) (met : Bool) (tes
       ∙ by-tests false true (leb z j) h (le-leb v (suc j) (omega arith)) refl
 
   pub ends-exact : (best : Spot) → met ≡ false → j + 1 < v → z ≤ j → best ≡ replaced s (this .window) m →
-      Over (record { end = Exact; levels = j + 2; last = record { window = best; bound = m .area; kept = 0 } }) ≡ endingOf s e v z j this m
+      Over (record { end = Exact; levels = j + 2; last = record { window = best; far = m .area; kept = 0 } }) ≡ endingOf s e v z j this m
   ends-exact best h k l r =
-      ap₂ (λ (k : ℕ) (b : Spot). Over (record { end = Exact; levels = k; last = record { window = b; bound = m .area; kept = 0 } })) (add-two j) r
+      ap₂ (λ (k : ℕ) (b : Spot). Over (record { end = Exact; levels = k; last = record { window = b; far = m .area; kept = 0 } })) (add-two j) r
       ∙ by-tests false false true h (lt-leb v (suc j) (omega arith)) (le-leb z j l)
 
   pub ends-open : met ≡ false → j + 1 < v → j < z → Open ≡ endingOf s e v z j this m
@@ -286,4 +284,4 @@ module _ (s : Sense) (rs : List Rect) (n w e v z : ℕ) (old new : List ℕ) (be
   run-small this q small h = subst LevelSmall (sym h) (level-small s rs n w t before small q (run-tile .0) (so-far .start))
 
   pub run-deep : j ≤ 4
-  run-deep = omega (arith, so-far .level, so-far .last, trailing-le 4 w)
+  run-deep = omega (arith, so-far .level, so-far .last)

@@ -9,7 +9,7 @@ use Rattle.zoom.specs.Run.{levelAt, endNumber, quickRun}
 
 -- F with its window, C, kept
 abbrev pub levelNumbers : Level → List ℕ
-levelNumbers v = spotNumbers (v .window) (v .bound ∷ v .kept ∷ [])
+levelNumbers v = spotNumbers (v .window) (v .far ∷ v .kept ∷ [])
 
 -- the end, the levels done and the last of them
 abbrev pub quickNumbers : Quick → List ℕ

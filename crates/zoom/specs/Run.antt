@@ -1,5 +1,5 @@
 -- Document 01, "The quick run". Floor F, ceiling C, kept, level and end are its terms. Nothing is passed over here.
--- A level is stated over the sense of the extreme: of the greatest window F is `window .area` and C is `bound`. The least sense serves
+-- A level is stated over the sense of the extreme: of the greatest window F is `window .area` and C is `far`. The least sense serves
 -- request 1 of document 02.
 use Prim.Native.Nat.{ℕ, zero, suc, _+_, _-_, _*_, _/_, _^_, min}
 use mathlib.Core.Bool.{Bool, true, false}
@@ -19,9 +19,9 @@ use Rattle.zoom.specs.declared.End.the-variants.{Met, Stopped, Exact}
 use Rattle.zoom.specs.declared.Level.{Level}
 use Rattle.zoom.specs.declared.Quick.{Quick}
 
--- z, the last level: the smaller of 4 and the number of trailing zero bits of w, which is their number among its four lowest bits
+-- z, the last level: the smaller of 4 and the number of trailing zero bits of w; 64 bits hold every side
 abbrev pub lastLevel : ℕ → ℕ
-lastLevel w = trailingZeros 4 w
+lastLevel w = min 4 (trailingZeros 64 w)
 
 -- the tile side at level j
 abbrev pub levelTile : ℕ → ℕ → ℕ
@@ -44,19 +44,21 @@ abbrev pub farArea : Sense → List Rect → (n w t x y : ℕ) → ℕ
 farArea Greatest rs n w t x y = coveredArea rs (bloated n w t x y)
 farArea Least rs n w t x y = coveredArea rs (shrunk w t x y)
 
--- the level of tile side t, where `before` is the window named by the levels before it. F is the largest standard area of the level, and
--- `best` its window, in a level the least y, then the least x; it replaces the named window only if strictly larger, so that an earlier
--- level's window stays on a tie. C is the largest bloated area, kept the number of starts whose bloated area exceeds F.
--- In a run the area of the named window is F: `floor-is-best` in proofs/Bracket.antt.
+-- the best of a level's starts, k on each axis and t apart: the least y, then the least x
+abbrev pub bestStart : Sense → (ℕ → ℕ → ℕ) → (t k : ℕ) → Spot
+bestStart s f t k = bestInRows s f t k k (spotAt f 0 0)
+
+-- the level of tile side t, where `before` is the window named by the levels before it. `best` is the level's own best window: its area is F,
+-- the largest standard area. The named window gives way to it only if it is strictly larger, not on a tie. C is the largest bloated area, and
+-- kept counts the starts whose bloated area exceeds F. In a run F is the area of the named window too: `floor-is-best` in proofs/Bracket.antt.
 unfoldable pub levelOf : Sense → List Rect → (n w t : ℕ) → Spot → Level
 levelOf s rs n w t before =
     let k = startsOn n w t in
-    let far = farArea s rs n w t in
-    let best = bestInRows s (windowArea rs w) t k k (spotAt (windowArea rs w) 0 0) in
+    let best = bestStart s (windowArea rs w) t k in
     record {
       window = replaced s before best;
-      bound = bestInRows s far t k k (spotAt far 0 0) .area;
-      kept = sum k (λ j. sum k (λ i. one-if (better s (far (i * t) (j * t)) (best .area))));
+      far = bestStart s (farArea s rs n w t) t k .area;
+      kept = sum k (λ j. sum k (λ i. one-if (better s (farArea s rs n w t (i * t) (j * t)) (best .area))));
     }
 
 -- level j of a run: before it, the window at (0, 0) was named for j = 0, else that of the level before
@@ -67,10 +69,10 @@ levelAt s rs n w (suc j) = levelOf s rs n w (levelTile w (suc j)) (levelAt s rs 
 -- the lower and the upper end of a level's bracket
 abbrev pub lowEnd : Sense → Level → ℕ
 lowEnd Greatest v = v .window .area
-lowEnd Least v = v .bound
+lowEnd Least v = v .far
 
 abbrev pub highEnd : Sense → Level → ℕ
-highEnd Greatest v = v .bound
+highEnd Greatest v = v .far
 highEnd Least v = v .window .area
 
 -- a level is met for accuracy e, in thousandths: 1000 × C ≤ (1000 + 2e) × F
@@ -93,7 +95,7 @@ afterLevel s e v j this next =
 
 -- the exact search as one more level after level j: F = C = M, its window m replaces the named one only if M is better, kept is 0
 abbrev pub exactEnd : Sense → (j : ℕ) → (before m : Spot) → Quick
-exactEnd s j before m = record { end = Exact; levels = suc (suc j); last = record { window = replaced s before m; bound = m .area; kept = 0 } }
+exactEnd s j before m = record { end = Exact; levels = suc (suc j); last = record { window = replaced s before m; far = m .area; kept = 0 } }
 
 -- the run from level j on, with `left` levels after it before the exact search
 unfoldable pub runFrom : Sense → List Rect → (n w e v left j : ℕ) → Quick

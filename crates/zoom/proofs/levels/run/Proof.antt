@@ -40,7 +40,7 @@ ending-requires c κs =
     let so-far = c .before .before .before .before .loop .inv in
     let p = start .pre .1 .0 in
     let small = run-small _ _ _ _ _ _ _ _ _ _ _ _ _ so-far (p .0) (c .before .level .result) (p .1) (p .2) (c .before .level .ensures .0) in
-    ((p .3, small .window, small .bound), run-deep _ _ _ _ _ _ _ _ _ _ _ _ _ so-far (p .0))
+    ((p .3, small .window, small .far), run-deep _ _ _ _ _ _ _ _ _ _ _ _ _ so-far (p .0))
 
 returns : tie.Need-returns Inv-loop μ-loop
 returns c =
