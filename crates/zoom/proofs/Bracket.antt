@@ -1,18 +1,20 @@
 -- Demand 3 for the quick run: the named window is a position with that area, and the extreme of the exact run lies between floor and ceiling.
 use Prim.Native.Nat.{ℕ, zero, suc, _+_, _-_, _*_, _/_, _≤_, _<_}
-use mathlib.Core.Path.{_≡_, refl, sym, subst}
+use mathlib.Core.Path.{_≡_, refl, sym, ap, ap₂, _∙_, subst}
 use mathlib.Core.Bool.{Bool, true, false}
-use mathlib.Core.List.{List}
+use mathlib.Core.List.{List, []}
 use native.Mathlib.Nat.{zero-mul, mul-le-mul-left}
 use native.Mathlib.Omega.{arith}
-use borrow.Author.Tests.{ltb-false, leb-true}
+use borrow.Author.Tests.{ltb-false, leb-true, leb-false, le-leb}
 use lib.Dec.{leb}
 use Rattle.geometry.specs.declared.Rect.{Rect}
 use Rattle.geometry.specs.declared.Spot.{Spot}
 use Rattle.geometry.specs.declared.Sense.{Sense}
 use Rattle.geometry.specs.declared.Sense.the-variants.{Greatest, Least}
 use Rattle.geometry.specs.Extreme.{better, spotAt, replaced, bestInRows}
-use Rattle.geometry.specs.Layout.{coveredArea, window}
+use Rattle.geometry.specs.Count.{sum, one-if}
+use Rattle.geometry.specs.Layout.{covered, coveredArea, window}
+use Rattle.geometry.proofs.Counting.{sum-cong, sum-zero, box-const}
 use Rattle.geometry.proofs.Totals.{small-product}
 use Rattle.geometry.proofs.Overlaps.{area-small}
 use Rattle.geometry.proofs.Extremes.{better-self, step-better, step-skip}
@@ -253,6 +255,92 @@ quick-run-promises s rs n w e v p q =
       brackets = ended .holds;
       accurate = λ m. accurate e _ _ _ (ended .holds .low) (ended .holds .high) (leb-true _ _ (ended .met m));
     }
+
+-- a run does at most v levels, the exact search counted as one
+levels-after : (s : Sense) (e v j : ℕ) (this : Level) (next : Quick) → j < v → (suc j < v → next .levels ≤ v) → afterLevel s e v j this next .levels ≤ v
+levels-after s e v j this next h f = go (isMet s e this) refl (leb v (suc j)) refl
+  where
+    go : (m : Bool) → isMet s e this ≡ m → (d : Bool) → leb v (suc j) ≡ d → afterLevel s e v j this next .levels ≤ v
+    go true p d q = rw (p, afterLevel) h
+    go false p true q = rw (p, q, afterLevel) h
+    go false p false q = rw (p, q, afterLevel) (f (leb-false v (suc j) q))
+
+levels-from : (s : Sense) (rs : List Rect) (n w e v left j : ℕ) → j < v → runFrom s rs n w e v left j .levels ≤ v
+unfolding runFrom
+levels-from s rs n w e v zero j h = levels-after s e v j (levelAt s rs n w j) (exactEnd s j (levelAt s rs n w j .window) (extreme s rs n w)) h (λ k. k)
+levels-from s rs n w e v (suc left) j h = levels-after s e v j (levelAt s rs n w j) (runFrom s rs n w e v left (suc j)) h (λ k. levels-from s rs n w e v left (suc j) k)
+
+pub levels-at-most : (s : Sense) (rs : List Rect) (n w e v : ℕ) → 1 ≤ v → quickRun s rs n w e v .levels ≤ v
+unfolding quickRun
+levels-at-most s rs n w e v h = levels-from s rs n w e v (lastLevel w) 0 h
+
+-- ---- a layout with no rectangle
+
+nothing-covered : (b : Rect) → coveredArea [] b ≡ 0
+unfolding covered
+nothing-covered b = box-const b 0 ∙ flat
+  where
+    flat : (b .y2 - b .y1) * ((b .x2 - b .x1) * 0) ≡ 0
+    flat = omega arith
+
+far-nothing : (s : Sense) (n w t x y : ℕ) → farArea s [] n w t x y ≡ 0
+far-nothing Greatest n w t x y = nothing-covered (bloated n w t x y)
+far-nothing Least n w t x y = nothing-covered (shrunk w t x y)
+
+best-nothing : (s : Sense) (f : ℕ → ℕ → ℕ) (t k : ℕ) → ((x y : ℕ) → f x y ≡ 0) → bestStart s f t k .area ≡ 0
+best-nothing s f t k z = rows-are s f t k k (spotAt f 0 0) (λ (a : Spot). a .area ≡ 0) (z 0 0) (λ i j h l. z (i * t) (j * t))
+
+-- F = C = 0 at (0, 0), and no start is kept
+abbrev pub emptyLevel : Level
+emptyLevel = record { window = record { area = 0; x = 0; y = 0 }; far = 0; kept = 0 }
+
+level-nothing : (s : Sense) (n w t : ℕ) → levelOf s [] n w t (spotAt (windowArea [] w) 0 0) ≡ emptyLevel
+unfolding levelOf
+level-nothing s n w t = λ i. record { window = named i; far = best-nothing s (farArea s [] n w t) t k (far-nothing s n w t) i; kept = none i }
+  where
+    k : ℕ
+    k = startsOn n w t
+
+    first : Spot
+    first = spotAt (windowArea [] w) 0 0
+
+    best : Spot
+    best = bestStart s (windowArea [] w) t k
+
+    flat : best .area ≡ 0
+    flat = best-nothing s (windowArea [] w) t k (λ x y. nothing-covered (window w x y))
+
+    corner : first ≡ record { area = 0; x = 0; y = 0 }
+    corner = λ i. record { area = nothing-covered (window w 0 0) i; x = 0; y = 0 }
+
+    named : replaced s first best ≡ record { area = 0; x = 0; y = 0 }
+    named = step-skip s first best (ap₂ (λ (a b : ℕ). better s a b) flat (nothing-covered (window w 0 0)) ∙ better-self s 0) ∙ corner
+
+    unkept : (i j : ℕ) → one-if (better s (farArea s [] n w t (i * t) (j * t)) (best .area)) ≡ 0
+    unkept i j = ap₂ (λ (a b : ℕ). one-if (better s a b)) (far-nothing s n w t (i * t) (j * t)) flat ∙ ap one-if (better-self s 0)
+
+    none : sum k (λ j. sum k (λ i. one-if (better s (farArea s [] n w t (i * t) (j * t)) (best .area)))) ≡ 0
+    none = sum-cong k _ _ (λ j h. sum-cong k _ _ (λ i l. unkept i j) ∙ sum-zero k) ∙ sum-zero k
+
+met-at-once : (s : Sense) (rs : List Rect) (n w e v left : ℕ) → isMet s e (levelAt s rs n w 0) ≡ true →
+    runFrom s rs n w e v left 0 ≡ record { end = Met; levels = 1; last = levelAt s rs n w 0 }
+unfolding runFrom
+met-at-once s rs n w e v zero h = rw (h, afterLevel) refl
+met-at-once s rs n w e v (suc left) h = rw (h, afterLevel) refl
+
+-- it is met after one level
+pub empty-layout : (s : Sense) (n w e v : ℕ) → quickRun s [] n w e v ≡ record { end = Met; levels = 1; last = emptyLevel }
+unfolding quickRun levelAt
+empty-layout s n w e v =
+    subst (λ (u : Level). quickRun s [] n w e v ≡ record { end = Met; levels = 1; last = u }) level
+    (met-at-once s [] n w e v (lastLevel w) (ap (λ (u : Level). isMet s e u) level ∙ met s))
+  where
+    level : levelAt s [] n w 0 ≡ emptyLevel
+    level = level-nothing s n w (levelTile w 0)
+
+    met : (s : Sense) → isMet s e emptyLevel ≡ true
+    met Greatest = le-leb (1000 * 0) ((1000 + 2 * e) * 0) (omega arith)
+    met Least = le-leb (1000 * 0) ((1000 + 2 * e) * 0) (omega arith)
 
 -- ---- bounds
 
