@@ -1,7 +1,9 @@
 -- Demand 3 for the quick run: the named window is a position with that area, and the extreme of the exact run lies between floor and ceiling.
+-- Both are shown of every level, from level to level the bracket narrows, and a run keeps to the levels allowed.
 use Prim.Native.Nat.{ℕ, zero, suc, _+_, _-_, _*_, _/_, _≤_, _<_}
 use mathlib.Core.Path.{_≡_, refl, sym, ap, ap₂, _∙_, subst}
 use mathlib.Core.Bool.{Bool, true, false}
+use mathlib.Core.Logic.{_⊎_, inl, inr}
 use mathlib.Core.List.{List, []}
 use native.Mathlib.Nat.{zero-mul, mul-le-mul-left}
 use native.Mathlib.Omega.{arith}
@@ -14,14 +16,14 @@ use Rattle.geometry.specs.declared.Sense.the-variants.{Greatest, Least}
 use Rattle.geometry.specs.Extreme.{better, spotAt, replaced, bestInRows}
 use Rattle.geometry.specs.Count.{sum, one-if}
 use Rattle.geometry.specs.Layout.{covered, coveredArea, window}
-use Rattle.geometry.proofs.Counting.{sum-cong, sum-zero, box-const}
+use Rattle.geometry.proofs.Counting.{le-or-lt, sum-cong, sum-zero, box-const}
 use Rattle.geometry.proofs.Totals.{small-product}
 use Rattle.geometry.proofs.Overlaps.{area-small}
 use Rattle.geometry.proofs.Extremes.{better-self, step-better, step-skip}
 use Rattle.extremes.specs.Exact.{windowArea, extreme}
 use Rattle.extremes.proofs.Searches.{position, extreme-best}
 use Rattle.extremes.proofs.Promises.{extreme-over-all}
-use Rattle.zoom.specs.declared.End.the-variants.{Met, Stopped}
+use Rattle.zoom.specs.declared.End.the-variants.{Met}
 use Rattle.zoom.specs.declared.Level.{Level}
 use Rattle.zoom.specs.declared.Quick.{Quick}
 use Rattle.zoom.specs.Run.{lastLevel, levelTile, startsOn, bloated, shrunk, farArea, bestStart, levelOf, levelAt, lowEnd, highEnd, isMet, afterLevel, exactEnd, runFrom, quickRun}
@@ -63,7 +65,7 @@ level-at-start s rs n w t b a =
     rw (level-searches s rs n w t b)
     (rows-are s (windowArea rs w) t (startsOn n w t) (startsOn n w t) b (AtStart rs n w t) a (λ i j h k. at-start rs n w t i j h k))
 
--- where the window before is at a start of the level
+-- F, the area of the named window, is the level's best standard area where the window before is at a start of the level
 pub floor-of : (s : Sense) (rs : List Rect) (n w t : ℕ) (b : Spot) → AtStart rs n w t b →
     levelOf s rs n w t b .window .area ≡ bestStart s (windowArea rs w) t (startsOn n w t) .area
 unfolding levelOf
@@ -145,6 +147,8 @@ accurate e m low high h k l = record { above = omega (arith, part); below = omeg
     part : 2 * e * low ≤ 2 * e * m
     part = mul-le-mul-left (2 * e) h
 
+-- ---- the levels of a run
+
 -- the window that stands is a start of the first level, and of the next level if of this one
 pub first-start : (rs : List Rect) (n w : ℕ) → AtStart rs n w (levelTile w 0) (spotAt (windowArea rs w) 0 0)
 first-start rs n w =
@@ -168,7 +172,20 @@ window-stays : (s : Sense) (rs : List Rect) (n w j : ℕ) → NoBetter s (levelA
 unfolding levelAt levelOf
 window-stays s rs n w j = replaced-stays s (levelAt s rs n w j .window) _
 
--- ---- the levels of a run
+same-floor : (s : Sense) (rs : List Rect) (n w i j : ℕ) → i ≡ j → NoBetter s (levelAt s rs n w i .window .area) (levelAt s rs n w j .window .area)
+same-floor s rs n w i j e = rw e (better-self s (levelAt s rs n w j .window .area))
+
+-- F is no better in an earlier level
+pub floor-stays : (s : Sense) (rs : List Rect) (n w i j : ℕ) → i ≤ j → NoBetter s (levelAt s rs n w i .window .area) (levelAt s rs n w j .window .area)
+floor-stays s rs n w i zero h = same-floor s rs n w i 0 (omega arith)
+floor-stays s rs n w i (suc j) h = go (le-or-lt (suc j) i) (floor-stays s rs n w i j)
+  where
+    F : ℕ → ℕ
+    F j = levelAt s rs n w j .window .area
+
+    go : (suc j ≤ i) ⊎ (i < suc j) → (i ≤ j → NoBetter s (F i) (F j)) → NoBetter s (F i) (F (suc j))
+    go (inl k) r = same-floor s rs n w i (suc j) (omega arith)
+    go (inr k) r = no-better-trans s (F i) (F j) (F (suc j)) (r (omega arith)) (window-stays s rs n w j)
 
 module _ (s : Sense) (rs : List Rect) (n w : ℕ) (p : 1 ≤ w) where
   named-start : (j : ℕ) → j ≤ lastLevel w → AtStart rs n w (levelTile w j) (levelAt s rs n w j .window)
@@ -217,15 +234,12 @@ record Ended (P : Level → Type 0) (s : Sense) (e : ℕ) (q : Quick) : Type 0 w
   met : q .end ≡ Met → isMet s e (q .last) ≡ true
 
 after-level : (P : Level → Type 0) (s : Sense) (e v j : ℕ) (this : Level) (next : Quick) → P this → Ended P s e next → Ended P s e (afterLevel s e v j this next)
-after-level P s e v j this next b p = go (isMet s e this) refl (leb v (suc j))
+after-level P s e v j this next b p = go (isMet s e this) refl (leb v (suc j)) refl
   where
-    go : (m : Bool) → isMet s e this ≡ m → (d : Bool) → Ended P s e (elim m [
-      | true ↦ record { end = Met; levels = suc j; last = this }
-      | false ↦ elim d [ true ↦ record { end = Stopped; levels = suc j; last = this } | false ↦ next ]
-    ])
-    go true h d = record { holds = b; met = λ _. h }
-    go false h true = record { holds = b; met = λ e. absurd (let z : _≡_ {A = ℕ} 0 1 = cc in omega arith) }
-    go false h false = p
+    go : (m : Bool) → isMet s e this ≡ m → (d : Bool) → leb v (suc j) ≡ d → Ended P s e (afterLevel s e v j this next)
+    go true h d k = rw (h, afterLevel) (record { holds = b; met = λ _. h })
+    go false h true k = rw (h, k, afterLevel) (record { holds = b; met = λ e. absurd (let z : _≡_ {A = ℕ} 0 1 = cc in omega arith) })
+    go false h false k = rw (h, k, afterLevel) p
 
 module _ (P : Level → Type 0) (s : Sense) (rs : List Rect) (n w e v : ℕ) (each : (j : ℕ) → j ≤ lastLevel w → P (levelAt s rs n w j))
     (exact : (j : ℕ) → j ≤ lastLevel w → P (exactEnd s j (levelAt s rs n w j .window) (extreme s rs n w) .last)) where

@@ -1,5 +1,5 @@
--- `zoom::levels::run` meets its contract. The loop's invariant: the run from level j on, with the window that stands, is the whole run's answer.
--- The measure is the number of levels left. Assumes nothing.
+-- `zoom::levels::run` meets its contract. The loop's invariant: the run from level j on is the whole run's answer, and after the window that
+-- stands comes level j. The measure is the number of levels left. Assumes nothing.
 use Prim.Native.Nat.{_-_}
 use mathlib.Core.Path.{sym, _∙_}
 use native.Mathlib.Omega.{arith}
