@@ -7,7 +7,7 @@ use Rattle.geometry.specs.Layout.{covered}
 use Rattle.geometry.specs.Extreme.{bestInRow, bestInRows}
 use Rattle.geometry.specs.Cases.{foundIn, statedIn}
 use Rattle.extremes.specs.Exact.{extreme}
-use Rattle.zoom.specs.Run.{levelOf, runFrom, quickRun}
+use Rattle.zoom.specs.Run.{levelOf, levelAt, runFrom, quickRun}
 use Rattle.fill.specs.Eligible.{clearOfAll}
 use Rattle.fill.specs.Judge.{failingInRow, failingInRows, standardFailing, marginFailing}
 use Rattle.spelling.specs.Text.{bytes, parts}
@@ -20,5 +20,5 @@ use Rattle.unit.specs.Answering.{answerOf, textOf}
 use Rattle.unit.specs.Cases.{paperRows, byteRows}
 
 pub cases : foundIn (paperRows ++ byteRows) ≡ statedIn (paperRows ++ byteRows)
-unfolding sum covered bestInRow bestInRows extreme levelOf runFrom quickRun trailingZeros clearOfAll failingInRow failingInRows standardFailing marginFailing bytes parts decimal decimalIn digitsOf pastDigits valueFrom sameBytes spell readAs headPattern rectPattern fillPattern endPattern formOf shapeFault fillFault lineFault standsAfter readLines outcomeOf answerOf textOf
+unfolding sum covered bestInRow bestInRows extreme levelOf levelAt runFrom quickRun trailingZeros clearOfAll failingInRow failingInRows standardFailing marginFailing bytes parts decimal decimalIn digitsOf pastDigits valueFrom sameBytes spell readAs headPattern rectPattern fillPattern endPattern formOf shapeFault fillFault lineFault standsAfter readLines outcomeOf answerOf textOf
 cases = refl

@@ -111,7 +111,7 @@ quick-kept st r =
       floor = record { position = record { across = w .across; down = w .down }; area = w .area };
       floor-below = p .brackets .low;
       ceiling-above = p .brackets .high;
-      met = λ e. midpoint (h .accuracy) (extreme Greatest (st .shapes) (h .size) (h .window) .area) (q .last .window .area) (q .last .bound) (p .accurate (number-met (q .end) e));
+      met = λ e. midpoint (h .accuracy) (extreme Greatest (st .shapes) (h .size) (h .window) .area) (q .last .window .area) (q .last .far) (p .accurate (number-met (q .end) e));
     }
 
 -- ---- the fill, over the window's and the layout's own sides

@@ -29,7 +29,7 @@ answerOf st =
     record {
       exact = exactRun (st .shapes) (h .size) (h .window);
       quick = q;
-      density = density (h .window) (q .last .window .area) (q .last .bound);
+      density = density (h .window) (q .last .window .area) (q .last .far);
       verdict = verdictOf (st .shapes) (st .amounts) (tilesAcross h) (h .cut) (tileSide h) (h .lower) (h .upper) (h .window);
     }
 
@@ -45,7 +45,7 @@ zoomHead Exact = bytes "(zoom exact"
 
 abbrev pub levelPart : (levels : ℕ) → Level → List ℕ
 levelPart levels v =
-    spell (bytes " (levels #) (floor # # #) (ceiling #) (kept #))\n") (levels ∷ spotNumbers (v .window) (v .bound ∷ v .kept ∷ []))
+    spell (bytes " (levels #) (floor # # #) (ceiling #) (kept #))\n") (levels ∷ spotNumbers (v .window) (v .far ∷ v .kept ∷ []))
 
 abbrev pub zoomLine : Quick → List ℕ
 zoomLine q = zoomHead (q .end) ++ levelPart (q .levels) (q .last)

@@ -68,8 +68,8 @@ pub record ExactPromise (st : Standing) (e : Extremes) : Type 0 where
 pub record QuickPromise (st : Standing) (q : Quick) (m : ℕ) : Type 0 where
   pub floor : RealWindow st (q .last .window)
   pub floor-below : q .last .window .area ≤ m
-  pub ceiling-above : m ≤ q .last .bound
-  pub met : endNumber (q .end) ≡ 0 → 1000 * distance (q .last .window .area + q .last .bound) (2 * m) ≤ 2 * st .head .accuracy * m
+  pub ceiling-above : m ≤ q .last .far
+  pub met : endNumber (q .end) ≡ 0 → 1000 * distance (q .last .window .area + q .last .far) (2 * m) ≤ 2 * st .head .accuracy * m
 
 -- the fill, whichever eligible unit squares it takes: after "safe" every position keeps both bounds, on the tile grid or off it; after
 -- "broken" the named window is a position and breaks the bound named; and there is at least one placement

@@ -66,7 +66,7 @@ fn write_level(levels: u64, last: Level, out: &mut [u8], at: usize) -> usize
         last.window.area,
         last.window.x,
         last.window.y,
-        last.bound,
+        last.far,
         last.kept,
     ];
     write_line(

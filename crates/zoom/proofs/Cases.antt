@@ -5,9 +5,9 @@ use Rattle.geometry.specs.Count.{sum}
 use Rattle.geometry.specs.Layout.{covered}
 use Rattle.geometry.specs.Extreme.{bestInRow, bestInRows}
 use Rattle.geometry.specs.Cases.{foundIn, statedIn}
-use Rattle.zoom.specs.Run.{levelOf, runFrom, quickRun}
+use Rattle.zoom.specs.Run.{levelOf, levelAt, runFrom, quickRun}
 use Rattle.zoom.specs.Cases.{zoomRows}
 
 pub cases : foundIn zoomRows ≡ statedIn zoomRows
-unfolding sum covered bestInRow bestInRows trailingZeros levelOf runFrom quickRun
+unfolding sum covered bestInRow bestInRows trailingZeros levelOf levelAt runFrom quickRun
 cases = refl

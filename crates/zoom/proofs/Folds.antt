@@ -1,6 +1,6 @@
 -- What a search over starts finds, as the levels need it: no worse than what stood before and than each start, and one of them.
 use Prim.Native.Nat.{ℕ, zero, suc, _*_, _<_}
-use mathlib.Core.Path.{_≡_, refl, sym, ap₂, _∙_, subst}
+use mathlib.Core.Path.{_≡_, refl, sym, ap, ap₂, _∙_, subst}
 use mathlib.Core.Bool.{Bool, true, false}
 use mathlib.Core.Logic.{inl, inr}
 use native.Mathlib.Omega.{arith}
@@ -9,7 +9,7 @@ use Rattle.geometry.specs.declared.Spot.{Spot}
 use Rattle.geometry.specs.declared.Sense.{Sense}
 use Rattle.geometry.specs.declared.Sense.the-variants.{Greatest, Least}
 use Rattle.geometry.specs.Extreme.{better, spotAt, replaced, bestInRow, bestInRows}
-use Rattle.geometry.proofs.Extremes.{better-self, better-not, better-neither, step-better, step-skip, BestAfter, Start, after-no-worse, after-none-better, rows-best}
+use Rattle.geometry.proofs.Extremes.{better-self, better-not, better-neither, step-better, step-skip, BestAfter, Start, after-no-worse, after-none-better, best-after-unique, rows-best, rows-best-of-all}
 use Rattle.zoom.specs.Passing.{NoBetter}
 
 pub no-better-trans : (s : Sense) (a b c : ℕ) → NoBetter s a b → NoBetter s b c → NoBetter s a c
@@ -18,7 +18,7 @@ no-better-trans Least a b c h k = le-ltb a c (omega (arith, ltb-false a b h, ltb
 
 -- ---- a row
 
-replaced-stays : (s : Sense) (b c : Spot) → NoBetter s (b .area) (replaced s b c .area)
+pub replaced-stays : (s : Sense) (b c : Spot) → NoBetter s (b .area) (replaced s b c .area)
 replaced-stays s b c = go (better s (c .area) (b .area)) refl
   where
     go : (t : Bool) → better s (c .area) (b .area) ≡ t → NoBetter s (b .area) (replaced s b c .area)
@@ -71,3 +71,26 @@ rows-forget s f t n m b c h k = better-neither s (bestInRows s f t n m b .area) 
   where
     one : (b c : Spot) → NoBetter s (b .area) (bestInRows s f t n m c .area) → NoBetter s (bestInRows s f t n m b .area) (bestInRows s f t n m c .area)
     one b c h = rows-are s f t n m b (λ (a : Spot). NoBetter s (a .area) (bestInRows s f t n m c .area)) h (λ i j k l. rows-see s f t n m c i j k l)
+
+-- the search from the window before finds what that window and the best of all starts leave: it is replaced only by a strictly better one
+pub rows-replace : (s : Sense) (f : ℕ → ℕ → ℕ) (t n m : ℕ) (b : Spot) → 0 < n → 0 < m →
+    bestInRows s f t n m b ≡ replaced s b (bestInRows s f t n m (spotAt f 0 0))
+rows-replace s f t n m b h k =
+    best-after-unique s f (Start t n m) b (bestInRows s f t n m b) (replaced s b best) (rows-best s f t n m b) (go (better s (best .area) (b .area)) refl)
+  where
+    best : Spot
+    best = bestInRows s f t n m (spotAt f 0 0)
+
+    go : (t′ : Bool) → better s (best .area) (b .area) ≡ t′ → BestAfter s f (Start t n m) b (replaced s b best)
+    go true e = rw (step-better s b best e) (inr (rows-best-of-all s f t n m h k, e))
+    go false e =
+        rw (step-skip s b best e)
+        (inl (refl, λ x y w. no-better-trans s (f x y) (best .area) (b .area) (rows-best-of-all s f t n m h k .none-better x y w) e))
+
+-- where what stood before is no better than the best of all starts, it has that area after the search
+pub replaced-area : (s : Sense) (b c : Spot) → NoBetter s (b .area) (c .area) → replaced s b c .area ≡ c .area
+replaced-area s b c h = go (better s (c .area) (b .area)) refl
+  where
+    go : (t : Bool) → better s (c .area) (b .area) ≡ t → replaced s b c .area ≡ c .area
+    go true e = ap (λ (a : Spot). a .area) (step-better s b c e)
+    go false e = ap (λ (a : Spot). a .area) (step-skip s b c e) ∙ better-neither s (b .area) (c .area) h e

@@ -1,7 +1,7 @@
 -- The part of a row's strip that serves some starts: it has all that their windows meet.
 use Prim.Native.Nat.{ℕ, _+_, _*_, _≤_, _<_}
 use mathlib.Core.Path.{_≡_, sym, ap, _∙_}
-use mathlib.Core.List.{List, []}
+use mathlib.Core.List.{List}
 use native.Mathlib.Nat.{mul-le-mul, le-refl}
 use native.Mathlib.Omega.{arith}
 use lib.ListN.{length, take}
@@ -14,7 +14,7 @@ use Rattle.buffers.proofs.Fronts.{front-take, front-fits}
 use Rattle.geometry.proofs.Strips.{narrowed-sum, narrowed-small}
 use Rattle.zoom.specs.declared.Grid.{Grid}
 use Rattle.zoom.specs.declared.Held.{Held}
-use Rattle.zoom.specs.Grid.{Sized, spanFrom, spanTo, alongStrip, Meets}
+use Rattle.zoom.specs.Grid.{Sized, spanFrom, spanTo, Meets}
 use Rattle.zoom.proofs.Passes.{start-inside}
 
 -- at first nothing is held, for no start

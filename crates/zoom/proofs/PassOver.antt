@@ -1,29 +1,32 @@
 -- Passing over is harmless: a start whose far window lies in a far window of the level before that was no better than the best window then
 -- adds nothing to F, to kept or to C; and the flags of a level say this for the next.
 use Prim.Native.Nat.{ℕ, zero, suc, _+_, _*_, _/_, _≤_, _<_}
-use mathlib.Core.Path.{_≡_, refl, sym, _∙_, subst}
+use mathlib.Core.Path.{_≡_, refl, sym, ap, _∙_, subst}
 use mathlib.Core.Bool.{Bool, true, false}
 use mathlib.Core.Logic.{_⊎_, inl, inr}
 use mathlib.Core.List.{List}
-use native.Mathlib.Nat.{mul-le-mul-right, zero-mul}
+use native.Mathlib.Nat.{mul-le-mul-right, zero-mul, le-trans}
 use native.Mathlib.Decide.{ℕ-discrete}
 use native.Mathlib.Omega.{arith}
+use borrow.Author.Tests.{ltb-false, le-ltb}
 use lib.ListN.{length, getD, set, replicate, length-set, length-replicate, getD-replicate, List·getD-eq-default}
 use lib.Seq.{getD-set-same, getD-set-other}
 use Rattle.geometry.specs.declared.Rect.{Rect}
 use Rattle.geometry.specs.declared.Spot.{Spot}
 use Rattle.geometry.specs.declared.Sense.{Sense}
+use Rattle.geometry.specs.declared.Sense.the-variants.{Greatest}
 use Rattle.geometry.specs.Count.{one-if}
+use Rattle.geometry.specs.Layout.{covered, coveredArea, window}
 use Rattle.geometry.specs.Extreme.{better, spotAt, replaced, bestInRows}
-use Rattle.geometry.proofs.Counting.{le-or-lt}
+use Rattle.geometry.proofs.Counting.{le-or-lt, box-within}
 use Rattle.geometry.proofs.Extremes.{step-skip}
 use Rattle.extremes.specs.Exact.{windowArea}
-use Rattle.zoom.specs.Run.{startsOn, farArea, levelOf}
+use Rattle.zoom.specs.Run.{levelTile, startsOn, bloated, farArea, levelOf, levelAt}
 use Rattle.zoom.specs.Passing.{NoBetter, flagOf, flagsInRow, flagsInRows, Harmless}
 use Rattle.zoom.proofs.Folds.{no-better-trans, rows-see, rows-forget}
 use Rattle.zoom.specs.Grid.{AtStart}
-use Rattle.zoom.proofs.Starts.{far-within, start-fits, half-start, window-within, far-halves}
-use Rattle.zoom.proofs.Bracket.{level-at-start}
+use Rattle.zoom.proofs.Starts.{start-fits, half-start, window-within, far-halves}
+use Rattle.zoom.proofs.Bracket.{level-at-start, floor-stays}
 
 -- ---- what the flags of a level say
 
@@ -105,33 +108,56 @@ standard-no-better s rs n w t i j best p q h k b =
     (omega arith) (omega arith) (omega arith) (omega arith))
     b
 
--- a start whose tile lies in a tile of an earlier level has its far window in the far window there; if that one was no better than a window
--- that stood, then the start changes neither F nor C, and is not kept
-pub record AddsNothing (s : Sense) (rs : List Rect) (n w t i j best : ℕ) : Type 0 where
-  pub floor : (b : Spot) → NoBetter s best (b .area) → replaced s b (spotAt (windowArea rs w) (i * t) (j * t)) ≡ b
-  pub ceiling : (b : Spot) → NoBetter s best (b .area) → replaced s b (spotAt (farArea s rs n w t) (i * t) (j * t)) ≡ b
-  pub kept : one-if (better s (farArea s rs n w t (i * t) (j * t)) best) ≡ 0
+-- ---- the law of passing over, in boxes
 
-pub passed-over : (s : Sense) (rs : List Rect) (n w t i j best t′ x′ y′ : ℕ) → 1 ≤ t → w ≤ n → i < startsOn n w t → j < startsOn n w t →
-    x′ ≤ i * t → i * t + t ≤ x′ + t′ → y′ ≤ j * t → j * t + t ≤ y′ + t′ → NoBetter s (farArea s rs n w t′ x′ y′) best → AddsNothing s rs n w t i j best
-passed-over s rs n w t i j best t′ x′ y′ p q h k hx kx hy ky b =
+-- b lies inside c
+pub record Within (b c : Rect) : Type 0 where
+  pub left : c .x1 ≤ b .x1
+  pub low : c .y1 ≤ b .y1
+  pub right : b .x2 ≤ c .x2
+  pub high : b .y2 ≤ c .y2
+
+-- a window whose bloated area is at most F: it would change neither F nor C, which is no less than F, and is not kept
+pub record AddsNothing (rs : List Rect) (n w t x y f : ℕ) : Type 0 where
+  pub small : coveredArea rs (bloated n w t x y) ≤ f
+  pub floor : (b : Spot) → f ≤ b .area → replaced Greatest b (spotAt (windowArea rs w) x y) ≡ b
+  pub ceiling : (b : Spot) → f ≤ b .area → replaced Greatest b (spotAt (farArea Greatest rs n w t) x y) ≡ b
+  pub kept : one-if (better Greatest (coveredArea rs (bloated n w t x y)) f) ≡ 0
+
+-- a start (x, y) of level j may be passed over if its bloated window lies inside one of an earlier level i of area at most the F of that level
+pub passed-over : (rs : List Rect) (n w i j x y x′ y′ : ℕ) → i ≤ j → x + w ≤ n → y + w ≤ n →
+    Within (bloated n w (levelTile w j) x y) (bloated n w (levelTile w i) x′ y′) →
+    coveredArea rs (bloated n w (levelTile w i) x′ y′) ≤ levelAt Greatest rs n w i .window .area →
+    AddsNothing rs n w (levelTile w j) x y (levelAt Greatest rs n w j .window .area)
+passed-over rs n w i j x y x′ y′ h ex ey l s =
     record {
-      floor = λ c m.
-          step-skip s c (spotAt (windowArea rs w) (i * t) (j * t)) (no-better-trans s _ best (c .area) (standard-no-better s rs n w t i j best p q h k worse) m);
-      ceiling = λ c m. step-skip s c (spotAt (farArea s rs n w t) (i * t) (j * t)) (no-better-trans s _ best (c .area) worse m);
-      kept = rw worse refl;
+      small = small;
+      floor = λ b k. step-skip Greatest b (spotAt (windowArea rs w) x y) (le-ltb (b .area) (windowArea rs w x y) (omega (arith, small, standard, k)));
+      ceiling = λ b k. step-skip Greatest b (spotAt (farArea Greatest rs n w t) x y) (le-ltb (b .area) (coveredArea rs (bloated n w t x y)) (omega (arith, small, k)));
+      kept = ap one-if (le-ltb (levelAt Greatest rs n w j .window .area) (coveredArea rs (bloated n w t x y)) small);
     }
   where
-    worse : NoBetter s (farArea s rs n w t (i * t) (j * t)) best
-    worse =
-        no-better-trans s (farArea s rs n w t (i * t) (j * t)) (farArea s rs n w t′ x′ y′) best
-        (far-within s rs n w t (i * t) (j * t) t′ x′ y′ hx kx hy ky) b
+    t : ℕ
+    t = levelTile w j
+
+    area : ℕ → ℕ → ℕ
+    area x y = one-if (covered rs x y)
+
+    grows : levelAt Greatest rs n w i .window .area ≤ levelAt Greatest rs n w j .window .area
+    grows = ltb-false _ _ (floor-stays Greatest rs n w i j h)
+
+    small : coveredArea rs (bloated n w t x y) ≤ levelAt Greatest rs n w j .window .area
+    small =
+        le-trans (box-within (bloated n w t x y) (bloated n w (levelTile w i) x′ y′) area (l .left) (l .low) (l .right) (l .high)) (le-trans s grows)
+
+    standard : windowArea rs w x y ≤ coveredArea rs (bloated n w t x y)
+    standard = box-within (window w x y) (bloated n w t x y) area (omega arith) (omega arith) (omega arith) (omega arith)
 
 -- C may be sought from F on: the best window lies in the far window of its own start
-pub bound-from-best : (s : Sense) (rs : List Rect) (n w t : ℕ) (b : Spot) → 1 ≤ t → w ≤ n → AtStart rs n w t b →
-    bestInRows s (farArea s rs n w t) t (startsOn n w t) (startsOn n w t) (levelOf s rs n w t b .window) .area ≡ levelOf s rs n w t b .bound
+pub far-from-best : (s : Sense) (rs : List Rect) (n w t : ℕ) (b : Spot) → 1 ≤ t → w ≤ n → AtStart rs n w t b →
+    bestInRows s (farArea s rs n w t) t (startsOn n w t) (startsOn n w t) (levelOf s rs n w t b .window) .area ≡ levelOf s rs n w t b .far
 unfolding levelOf
-bound-from-best s rs n w t b p q a =
+far-from-best s rs n w t b p q a =
     rows-forget s far t k k (levelOf s rs n w t b .window) (spotAt far 0 0) (seen (level-at-start s rs n w t b a))
     (rw (zero-mul t) at (rows-see s far t k k (levelOf s rs n w t b .window) 0 0 (omega arith) (omega arith)))
   where

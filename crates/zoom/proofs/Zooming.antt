@@ -8,14 +8,13 @@ use native.Mathlib.Numerals.{add-one, add-two}
 use native.Mathlib.Omega.{arith}
 use borrow.Author.Tests.{leb-true, leb-false, le-leb, lt-leb}
 use lib.Dec.{leb}
-use lib.Count.{trailing-le}
 use lib.ListN.{length, take, drop, replicate, length-replicate}
 use lib.Seq.{take-length, drop-length}
 use Rattle.geometry.specs.declared.Rect.{Rect}
 use Rattle.geometry.specs.declared.Spot.{Spot}
 use Rattle.geometry.specs.declared.Sense.{Sense}
-use Rattle.geometry.specs.Layout.{coveredArea, window}
-use Rattle.geometry.specs.Extreme.{spotAt, replaced, bestInRows}
+use Rattle.geometry.specs.Count.{sum, one-if}
+use Rattle.geometry.specs.Extreme.{better, spotAt, replaced, bestInRows}
 use Rattle.extremes.specs.Exact.{windowArea, extreme}
 use Rattle.zoom.specs.declared.Level.{Level}
 use Rattle.zoom.specs.declared.End.the-variants.{Met, Stopped, Exact}
@@ -24,14 +23,14 @@ use Rattle.zoom.specs.declared.Ending.{Ending}
 use Rattle.zoom.specs.declared.Ending.the-variants.{Over, Open}
 use Rattle.zoom.specs.declared.Grid.{Grid}
 use Rattle.zoom.specs.declared.Far.{Far}
-use Rattle.zoom.specs.Run.{lastLevel, tileSide, startsOn, farArea, levelOf, isMet, exactLevel, runFrom, quickRun}
+use Rattle.zoom.specs.Run.{lastLevel, levelTile, startsOn, farArea, levelOf, levelAt, isMet, exactEnd, runFrom, quickRun}
 use Rattle.zoom.specs.Passing.{NoBetter, Harmless, flagsInRows}
 use Rattle.zoom.specs.Grid.{Sized, AtStart, farInRows, endingOf}
 use Rattle.zoom.proofs.Folds.{no-better-trans, rows-stay}
 use Rattle.zoom.proofs.Tiles.{tile-next, tile-halves, tile-positive}
 use Rattle.zoom.proofs.Starts.{start-stays}
-use Rattle.zoom.proofs.Bracket.{first-start, level-at-start, LevelSmall, level-small}
-use Rattle.zoom.proofs.PassOver.{bound-from-best, harmless-first, harmless-next}
+use Rattle.zoom.proofs.Bracket.{first-start, level-searches, level-at-start, floor-of, LevelSmall, level-small}
+use Rattle.zoom.proofs.PassOver.{far-from-best, harmless-first, harmless-next}
 use Rattle.zoom.proofs.Passes.{RowsSoFar, far-rows-bound, far-rows-kept}
 
 -- ---- a level by its two passes
@@ -52,11 +51,11 @@ pub record LevelDone (s : Sense) (rs : List Rect) (n w t : ℕ) (before : Spot) 
 pub level-done : (s : Sense) (rs : List Rect) (g : Grid) (before best : Spot) (far : Far) (new new′ : List ℕ) → Sized g → AtStart rs (g .n) (g .w) (g .t) before →
     best ≡ bestInRows s (windowArea rs (g .w)) (g .t) (g .starts) (g .starts) before →
     RowsSoFar s (best .area) (farArea s rs (g .n) (g .w) (g .t)) (g .t) (g .starts) (g .starts) (record { bound = best; kept = 0 }) far new new′ →
-    LevelDone s rs (g .n) (g .w) (g .t) before (record { window = best; bound = far .bound .area; kept = far .kept }) new new′
+    LevelDone s rs (g .n) (g .w) (g .t) before (record { window = best; far = far .bound .area; kept = far .kept }) new new′
 unfolding levelOf
 level-done s rs g before best far new new′ z a e r =
     record {
-      answer = λ i. record { window = window-is i; bound = bound-is i; kept = kept-is i };
+      answer = λ i. record { window = window-is i; far = far-is i; kept = kept-is i };
       flags = subst (λ (k : ℕ). new′ ≡ flagsInRows s (best .area) (farArea s rs (g .n) (g .w) (g .t)) (g .t) k k new) (z .count) (r .flags);
     }
   where
@@ -64,7 +63,8 @@ level-done s rs g before best far new new′ z a e r =
     level = levelOf s rs (g .n) (g .w) (g .t) before
 
     window-is : best ≡ level .window
-    window-is = subst (λ (k : ℕ). best ≡ bestInRows s (windowArea rs (g .w)) (g .t) k k before) (z .count) e
+    window-is =
+        subst (λ (k : ℕ). best ≡ bestInRows s (windowArea rs (g .w)) (g .t) k k before) (z .count) e ∙ sym (level-searches s rs (g .n) (g .w) (g .t) before)
 
     counted : far ≡ farInRows s (level .window .area) (farArea s rs (g .n) (g .w) (g .t)) (g .t) (startsOn (g .n) (g .w) (g .t)) (startsOn (g .n) (g .w) (g .t))
         (record { bound = level .window; kept = 0 })
@@ -72,16 +72,22 @@ level-done s rs g before best far new new′ z a e r =
         r .search
         ∙ ap₂ (λ (b : Spot) (k : ℕ). farInRows s (b .area) (farArea s rs (g .n) (g .w) (g .t)) (g .t) k k (record { bound = b; kept = 0 })) window-is (z .count)
 
-    bound-is : far .bound .area ≡ level .bound
-    bound-is =
+    far-is : far .bound .area ≡ level .far
+    far-is =
         ap (λ (b : Far). b .bound .area) counted
         ∙ ap (λ (b : Spot). b .area) (far-rows-bound s (level .window .area) (farArea s rs (g .n) (g .w) (g .t)) (g .t) _ _ (record { bound = level .window; kept = 0 }))
-        ∙ bound-from-best s rs (g .n) (g .w) (g .t) before (z .tile) (z .inside) a
+        ∙ far-from-best s rs (g .n) (g .w) (g .t) before (z .tile) (z .inside) a
+
+    kept-against : ℕ → ℕ
+    kept-against f =
+        let k = startsOn (g .n) (g .w) (g .t) in
+        sum k (λ j. sum k (λ i. one-if (better s (farArea s rs (g .n) (g .w) (g .t) (i * g .t) (j * g .t)) f)))
 
     kept-is : far .kept ≡ level .kept
     kept-is =
         ap (λ (b : Far). b .kept) counted
         ∙ far-rows-kept s (level .window .area) (farArea s rs (g .n) (g .w) (g .t)) (g .t) _ _ (record { bound = level .window; kept = 0 }) ∙ zero-add _
+        ∙ ap kept-against (floor-of s rs (g .n) (g .w) (g .t) before a)
 
 -- ---- the run, level by level
 
@@ -112,41 +118,39 @@ open-by-tests false true last first second third next e = record { more = cc; sa
 open-by-tests false false true first second third next e = record { more = cc; same = refl }
 open-by-tests false false false first second third next e = record { more = refl; same = refl }
 
-run-over : (s : Sense) (rs : List Rect) (n w e v z left j : ℕ) (b : Spot) (q : Quick) → j + left ≡ z →
-    endingOf s e v z j (levelOf s rs n w (tileSide w j) b) (extreme s rs n w) ≡ Over q → runFrom s rs n w e v left j b ≡ q
+run-over : (s : Sense) (rs : List Rect) (n w e v z left j : ℕ) (q : Quick) → j + left ≡ z →
+    endingOf s e v z j (levelAt s rs n w j) (extreme s rs n w) ≡ Over q → runFrom s rs n w e v left j ≡ q
 unfolding runFrom
-run-over s rs n w e v z zero j b q h k =
-    let this : Level = levelOf s rs n w (tileSide w j) b in
-    over-by-tests (isMet s e this) (leb v (suc j)) (leb z j) _ _ (record { end = Exact; levels = suc (suc j); last = exactLevel s (this .window) (extreme s rs n w) }) _ q
-    (λ _. refl) k
-run-over s rs n w e v z (suc left) j b q h k =
-    let this : Level = levelOf s rs n w (tileSide w j) b in
-    over-by-tests (isMet s e this) (leb v (suc j)) (leb z j) _ _ (record { end = Exact; levels = suc (suc j); last = exactLevel s (this .window) (extreme s rs n w) })
-    (runFrom s rs n w e v left (suc j) (this .window)) q
+run-over s rs n w e v z zero j q h k =
+    let this : Level = levelAt s rs n w j in
+    over-by-tests (isMet s e this) (leb v (suc j)) (leb z j) _ _ (exactEnd s j (this .window) (extreme s rs n w)) _ q (λ _. refl) k
+run-over s rs n w e v z (suc left) j q h k =
+    let this : Level = levelAt s rs n w j in
+    over-by-tests (isMet s e this) (leb v (suc j)) (leb z j) _ _ (exactEnd s j (this .window) (extreme s rs n w)) (runFrom s rs n w e v left (suc j)) q
     (λ l. absurd (omega (arith, leb-true z j l))) k
 
-record RunGoesOn (s : Sense) (rs : List Rect) (n w e v z left j : ℕ) (b : Spot) : Type 0 where
+record RunGoesOn (s : Sense) (rs : List Rect) (n w e v z left j : ℕ) : Type 0 where
   more : j < z
-  same : runFrom s rs n w e v left j b ≡ runFrom s rs n w e v (left - 1) (suc j) (levelOf s rs n w (tileSide w j) b .window)
+  same : runFrom s rs n w e v left j ≡ runFrom s rs n w e v (left - 1) (suc j)
 
-run-open : (s : Sense) (rs : List Rect) (n w e v z left j : ℕ) (b : Spot) → j + left ≡ z →
-    endingOf s e v z j (levelOf s rs n w (tileSide w j) b) (extreme s rs n w) ≡ Open → RunGoesOn s rs n w e v z left j b
+run-open : (s : Sense) (rs : List Rect) (n w e v z left j : ℕ) → j + left ≡ z →
+    endingOf s e v z j (levelAt s rs n w j) (extreme s rs n w) ≡ Open → RunGoesOn s rs n w e v z left j
 unfolding runFrom
-run-open s rs n w e v z zero j b h k =
-    let this : Level = levelOf s rs n w (tileSide w j) b in
-    let g = open-by-tests (isMet s e this) (leb v (suc j)) (leb z j) _ _ _ (record { end = Exact; levels = suc (suc j); last = exactLevel s (this .window) (extreme s rs n w) }) k in
+run-open s rs n w e v z zero j h k =
+    let this : Level = levelAt s rs n w j in
+    let g = open-by-tests (isMet s e this) (leb v (suc j)) (leb z j) _ _ _ (exactEnd s j (this .window) (extreme s rs n w)) k in
     absurd (omega (arith, leb-false z j (g .more)))
-run-open s rs n w e v z (suc left) j b h k =
-    let this : Level = levelOf s rs n w (tileSide w j) b in
-    let g = open-by-tests (isMet s e this) (leb v (suc j)) (leb z j) _ _ _ (runFrom s rs n w e v left (suc j) (this .window)) k in
+run-open s rs n w e v z (suc left) j h k =
+    let this : Level = levelAt s rs n w j in
+    let g = open-by-tests (isMet s e this) (leb v (suc j)) (leb z j) _ _ _ (runFrom s rs n w e v left (suc j)) k in
     let less : left ≡ suc left - 1 = omega arith in
-    record { more = omega (arith, leb-false z j (g .more)); same = g .same ∙ ap (λ (l : ℕ). runFrom s rs n w e v l (suc j) (this .window)) less }
+    record { more = omega (arith, leb-false z j (g .more)); same = g .same ∙ ap (λ (l : ℕ). runFrom s rs n w e v l (suc j)) less }
 
 -- each answer of the code by the tests that led to it
 module _ (s : Sense) (e v z j : ℕ) (this : Level) (m : Spot) (met : Bool) (tested : met ≡ isMet s e this) where
   by-tests : (a b c : Bool) → met ≡ a → leb v (suc j) ≡ b → leb z j ≡ c →
       endTests a b c (record { end = Met; levels = suc j; last = this }) (record { end = Stopped; levels = suc j; last = this })
-      (record { end = Exact; levels = suc (suc j); last = exactLevel s (this .window) m })
+      (exactEnd s j (this .window) m)
       ≡ endingOf s e v z j this m
   by-tests a b c h k l = rw (sym h ∙ tested, sym k, sym l)
 
@@ -159,9 +163,9 @@ module _ (s : Sense) (e v z j : ℕ) (this : Level) (m : Spot) (met : Bool) (tes
       ∙ by-tests false true (leb z j) h (le-leb v (suc j) (omega arith)) refl
 
   pub ends-exact : (best : Spot) → met ≡ false → j + 1 < v → z ≤ j → best ≡ replaced s (this .window) m →
-      Over (record { end = Exact; levels = j + 2; last = record { window = best; bound = m .area; kept = 0 } }) ≡ endingOf s e v z j this m
+      Over (record { end = Exact; levels = j + 2; last = record { window = best; far = m .area; kept = 0 } }) ≡ endingOf s e v z j this m
   ends-exact best h k l r =
-      ap₂ (λ (k : ℕ) (b : Spot). Over (record { end = Exact; levels = k; last = record { window = b; bound = m .area; kept = 0 } })) (add-two j) r
+      ap₂ (λ (k : ℕ) (b : Spot). Over (record { end = Exact; levels = k; last = record { window = b; far = m .area; kept = 0 } })) (add-two j) r
       ∙ by-tests false false true h (lt-leb v (suc j) (omega arith)) (le-leb z j l)
 
   pub ends-open : met ≡ false → j + 1 < v → j < z → Open ≡ endingOf s e v z j this m
@@ -174,10 +178,11 @@ copied from to out h e =
 
 -- what holds before each level
 pub record RunSoFar (s : Sense) (rs : List Rect) (n w e v z : ℕ) (old new : List ℕ) (before : Spot) (side t j : ℕ) : Type 0 where
-  pub whole : runFrom s rs n w e v (z - j) j before ≡ quickRun s rs n w e v
+  pub whole : runFrom s rs n w e v (z - j) j ≡ quickRun s rs n w e v
   pub last : z ≡ lastLevel w
   pub level : j ≤ z
-  pub tile : t ≡ tileSide w j
+  pub tile : t ≡ levelTile w j
+  pub named : levelOf s rs n w (levelTile w j) before ≡ levelAt s rs n w j
   pub start : AtStart rs n w t before
   pub spare : Harmless s rs n w t old side (before .area)
   pub few : side ≤ 1048577
@@ -186,13 +191,14 @@ pub record RunSoFar (s : Sense) (rs : List Rect) (n w e v z : ℕ) (old new : Li
 
 pub run-begins : (s : Sense) (rs : List Rect) (n w e v z : ℕ) (before : Spot) → z ≡ lastLevel w → before ≡ spotAt (windowArea rs w) 0 0 →
     RunSoFar s rs n w e v z (replicate 262144 0) (replicate 262144 0) before 0 w 0
-unfolding quickRun
+unfolding quickRun levelAt
 run-begins s rs n w e v z before h k =
     record {
-      whole = ap₂ (λ (l : ℕ) (b : Spot). runFrom s rs n w e v l 0 b) left k;
+      whole = ap (λ (l : ℕ). runFrom s rs n w e v l 0) left;
       last = h;
       level = omega arith;
       tile = sym (div-one w);
+      named = ap (λ (b : Spot). levelOf s rs n w (levelTile w 0) b) k;
       start = subst (λ (b : Spot). AtStart rs n w w b) (sym k) (subst (λ (t : ℕ). AtStart rs n w t (spotAt (windowArea rs w) 0 0)) (div-one w) (first-start rs n w));
       spare = harmless-first s rs n w w 0 262144 (before .area);
       few = omega arith;
@@ -212,14 +218,21 @@ module _ (s : Sense) (rs : List Rect) (n w e v z : ℕ) (old new : List ℕ) (be
   left-is : j + (z - j) ≡ z
   left-is = omega (arith, so-far .level)
 
+  -- what the code answers for this level is level j of the run
+  run-level : (this : Level) → this ≡ levelOf s rs n w t before → this ≡ levelAt s rs n w j
+  run-level this h = h ∙ ap (λ (u : ℕ). levelOf s rs n w u before) (so-far .tile) ∙ so-far .named
+
+  run-names : (this : Level) → this ≡ levelOf s rs n w t before → levelOf s rs n w (levelTile w (suc j)) (this .window) ≡ levelAt s rs n w (suc j)
+  unfolding levelAt
+  run-names this h = ap (λ (u : Level). levelOf s rs n w (levelTile w (suc j)) (u .window)) (run-level this h)
+
+  run-ending : (this : Level) (m : Spot) (ending : Ending) → this ≡ levelOf s rs n w t before → m ≡ extreme s rs n w → ending ≡ endingOf s e v z j this m →
+      endingOf s e v z j (levelAt s rs n w j) (extreme s rs n w) ≡ ending
+  run-ending this m ending h k l = ap₂ (λ (u : Level) (x : Spot). endingOf s e v z j u x) (sym (run-level this h)) (sym k) ∙ sym l
+
   pub run-answers : (this : Level) (m : Spot) (ending : Ending) (q : Quick) → this ≡ levelOf s rs n w t before → m ≡ extreme s rs n w →
       ending ≡ endingOf s e v z j this m → ending ≡ Over q → q ≡ quickRun s rs n w e v
-  run-answers this m ending q h k l o =
-      sym (run-over s rs n w e v z (z - j) j before q left-is
-      (subst (λ (u : ℕ). endingOf s e v z j (levelOf s rs n w u before) (extreme s rs n w) ≡ Over q) (so-far .tile)
-      (subst (λ (u : Spot). endingOf s e v z j (levelOf s rs n w t before) u ≡ Over q) k
-      (subst (λ (u : Level). endingOf s e v z j u m ≡ Over q) h (sym l ∙ o)))))
-      ∙ so-far .whole
+  run-answers this m ending q h k l o = sym (run-over s rs n w e v z (z - j) j q left-is (run-ending this m ending h k l ∙ o)) ∙ so-far .whole
 
   pub run-goes-on : (this : Level) (m : Spot) (ending : Ending) (old′ new′ : List ℕ) (side′ : ℕ) → n ≤ 1048576 →
       LevelDone s rs n w t before this new new′ → m ≡ extreme s rs n w → ending ≡ endingOf s e v z j this m → ending ≡ Open → length new′ ≡ length new →
@@ -227,10 +240,11 @@ module _ (s : Sense) (rs : List Rect) (n w e v z : ℕ) (old new : List ℕ) (be
       RunSoFar s rs n w e v z old′ new′ (this .window) side′ (t / 2) (j + 1)
   run-goes-on this m ending old′ new′ side′ small d k l o size copy counted =
       record {
-        whole = whole;
+        whole = ap₂ (λ (l i : ℕ). runFrom s rs n w e v l i) less (add-one j) ∙ sym (on .same) ∙ so-far .whole;
         last = so-far .last;
         level = omega (arith, on .more);
-        tile = ap (λ (u : ℕ). u / 2) (so-far .tile) ∙ sym (tile-next w j) ∙ ap (λ (i : ℕ). tileSide w i) (sym (add-one j));
+        tile = ap (λ (u : ℕ). u / 2) (so-far .tile) ∙ sym (tile-next w j) ∙ ap (λ (i : ℕ). levelTile w i) (sym (add-one j));
+        named = subst (λ (i : ℕ). levelOf s rs n w (levelTile w i) (this .window) ≡ levelAt s rs n w i) (sym (add-one j)) (run-names this (d .answer));
         start = start-stays rs n w (t / 2) (this .window) positive (subst (λ (u : ℕ). AtStart rs n w u (this .window)) even stands);
         spare = rw (counted, same) spare;
         few = omega (arith, counted, div-le-self (n - w) t);
@@ -241,24 +255,11 @@ module _ (s : Sense) (rs : List Rect) (n w e v z : ℕ) (old new : List ℕ) (be
       same : old′ ≡ new′
       same = copied new′ old old′ (size ∙ so-far .new-size ∙ sym (so-far .old-size)) copy
 
-      level : Level
-      level = levelOf s rs n w (tileSide w j) before
+      on : RunGoesOn s rs n w e v z (z - j) j
+      on = run-open s rs n w e v z (z - j) j left-is (run-ending this m ending (d .answer) k l ∙ o)
 
-      is-level : this ≡ level
-      is-level = d .answer ∙ ap (λ (u : ℕ). levelOf s rs n w u before) (so-far .tile)
-
-      on : RunGoesOn s rs n w e v z (z - j) j before
-      on =
-          run-open s rs n w e v z (z - j) j before left-is
-          (subst (λ (u : Spot). endingOf s e v z j level u ≡ Open) k (subst (λ (u : Level). endingOf s e v z j u m ≡ Open) is-level (sym l ∙ o)))
-
-      whole : runFrom s rs n w e v (z - (j + 1)) (j + 1) (this .window) ≡ quickRun s rs n w e v
-      whole =
-          ap₂ (λ (l i : ℕ). runFrom s rs n w e v l i (this .window)) less (add-one j)
-          ∙ ap (λ (u : Level). runFrom s rs n w e v (z - j - 1) (suc j) (u .window)) is-level ∙ sym (on .same) ∙ so-far .whole
-        where
-          less : z - (j + 1) ≡ z - j - 1
-          less = omega arith
+      less : z - (j + 1) ≡ z - j - 1
+      less = omega arith
 
       even : t ≡ 2 * (t / 2)
       even =
@@ -283,4 +284,4 @@ module _ (s : Sense) (rs : List Rect) (n w e v z : ℕ) (old new : List ℕ) (be
   run-small this q small h = subst LevelSmall (sym h) (level-small s rs n w t before small q (run-tile .0) (so-far .start))
 
   pub run-deep : j ≤ 4
-  run-deep = omega (arith, so-far .level, so-far .last, trailing-le 4 w)
+  run-deep = omega (arith, so-far .level, so-far .last)

@@ -17,10 +17,10 @@ use Rattle.zoom.specs.declared.Grid.{Grid}
 use Rattle.zoom.specs.declared.Held.{Held}
 use Rattle.zoom.specs.declared.Far.{Far}
 use Rattle.zoom.specs.declared.Level.{Level}
-use Rattle.zoom.specs.declared.End.the-variants.{Met, Stopped, Exact}
+use Rattle.zoom.specs.declared.End.the-variants.{Met, Stopped}
 use Rattle.zoom.specs.declared.Ending.{Ending}
 use Rattle.zoom.specs.declared.Ending.the-variants.{Over, Open}
-use Rattle.zoom.specs.Run.{startsOn, isMet, exactLevel}
+use Rattle.zoom.specs.Run.{startsOn, isMet, exactEnd}
 use Rattle.zoom.specs.Passing.{NoBetter}
 
 -- the starts of a level, and what 64 bits ask of them
@@ -89,7 +89,7 @@ endingOf s e v z j this m =
       | false ↦ elim (leb v (suc j)) [
         | true ↦ Over (record { end = Stopped; levels = suc j; last = this })
         | false ↦ elim (leb z j) [
-          | true ↦ Over (record { end = Exact; levels = suc (suc j); last = exactLevel s (this .window) m })
+          | true ↦ Over (exactEnd s j (this .window) m)
           | false ↦ Open
         ]
       ]

@@ -1,5 +1,5 @@
 -- Document 01, "The quick run". Floor F, ceiling C, kept, level and end are its terms. Nothing is passed over here.
--- A level is stated over the sense of the extreme: of the greatest window F is `window .area` and C is `bound`. The least sense serves
+-- A level is stated over the sense of the extreme: of the greatest window F is `window .area` and C is `far`. The least sense serves
 -- request 1 of document 02.
 use Prim.Native.Nat.{ℕ, zero, suc, _+_, _-_, _*_, _/_, _^_, min}
 use mathlib.Core.Bool.{Bool, true, false}
@@ -19,13 +19,13 @@ use Rattle.zoom.specs.declared.End.the-variants.{Met, Stopped, Exact}
 use Rattle.zoom.specs.declared.Level.{Level}
 use Rattle.zoom.specs.declared.Quick.{Quick}
 
--- z, the last level: the smaller of 4 and the number of trailing zero bits of w, which is their number among its four lowest bits
+-- z, the last level: the smaller of 4 and the number of trailing zero bits of w; 64 bits hold every side
 abbrev pub lastLevel : ℕ → ℕ
-lastLevel w = trailingZeros 4 w
+lastLevel w = min 4 (trailingZeros 64 w)
 
 -- the tile side at level j
-abbrev pub tileSide : ℕ → ℕ → ℕ
-tileSide w j = w / 2 ^ j
+abbrev pub levelTile : ℕ → ℕ → ℕ
+levelTile w j = w / 2 ^ j
 
 -- the number of starts on an axis: the multiples of t up to n − w
 abbrev pub startsOn : (n w t : ℕ) → ℕ
@@ -44,28 +44,35 @@ abbrev pub farArea : Sense → List Rect → (n w t x y : ℕ) → ℕ
 farArea Greatest rs n w t x y = coveredArea rs (bloated n w t x y)
 farArea Least rs n w t x y = coveredArea rs (shrunk w t x y)
 
--- the level of tile side t, where `before` is the window named by the levels before it:
--- F with its window, replaced only by a strictly larger area; C, the largest bloated area; kept, the starts whose bloated area exceeds F.
--- In a run `before` is always a window at a start of this level, so F is the largest standard area of the level: `first-start`,
--- `level-at-start` and `next-start` in proofs/Bracket.antt.
+-- the best of a level's starts, k on each axis and t apart: the least y, then the least x
+abbrev pub bestStart : Sense → (ℕ → ℕ → ℕ) → (t k : ℕ) → Spot
+bestStart s f t k = bestInRows s f t k k (spotAt f 0 0)
+
+-- the level of tile side t, where `before` is the window named by the levels before it. `best` is the level's own best window: its area is F,
+-- the largest standard area. The named window gives way to it only if it is strictly larger, not on a tie. C is the largest bloated area, and
+-- kept counts the starts whose bloated area exceeds F. In a run F is the area of the named window too: `floor-is-best` in proofs/Bracket.antt.
 unfoldable pub levelOf : Sense → List Rect → (n w t : ℕ) → Spot → Level
 levelOf s rs n w t before =
     let k = startsOn n w t in
-    let far = farArea s rs n w t in
-    let best = bestInRows s (windowArea rs w) t k k before in
+    let best = bestStart s (windowArea rs w) t k in
     record {
-      window = best;
-      bound = bestInRows s far t k k (spotAt far 0 0) .area;
-      kept = sum k (λ j. sum k (λ i. one-if (better s (far (i * t) (j * t)) (best .area))));
+      window = replaced s before best;
+      far = bestStart s (farArea s rs n w t) t k .area;
+      kept = sum k (λ j. sum k (λ i. one-if (better s (farArea s rs n w t (i * t) (j * t)) (best .area))));
     }
+
+-- level j of a run: before it, the window at (0, 0) was named for j = 0, else that of the level before
+unfoldable pub levelAt : Sense → List Rect → (n w j : ℕ) → Level
+levelAt s rs n w zero = levelOf s rs n w (levelTile w 0) (spotAt (windowArea rs w) 0 0)
+levelAt s rs n w (suc j) = levelOf s rs n w (levelTile w (suc j)) (levelAt s rs n w j .window)
 
 -- the lower and the upper end of a level's bracket
 abbrev pub lowEnd : Sense → Level → ℕ
 lowEnd Greatest v = v .window .area
-lowEnd Least v = v .bound
+lowEnd Least v = v .far
 
 abbrev pub highEnd : Sense → Level → ℕ
-highEnd Greatest v = v .bound
+highEnd Greatest v = v .far
 highEnd Least v = v .window .area
 
 -- a level is met for accuracy e, in thousandths: 1000 × C ≤ (1000 + 2e) × F
@@ -78,10 +85,6 @@ endNumber Met = 0
 endNumber Stopped = 1
 endNumber Exact = 2
 
--- the exact search as one more level: C = M, the window replaced only if M is better, kept 0; no window passes M, so F = M too
-abbrev pub exactLevel : Sense → Spot → Spot → Level
-exactLevel s before m = record { window = replaced s before m; bound = m .area; kept = 0 }
-
 -- the answer after level j: met; else stopped, if the v levels allowed are done; else what the next level answers
 abbrev pub afterLevel : Sense → (e v j : ℕ) → Level → Quick → Quick
 afterLevel s e v j this next =
@@ -90,20 +93,18 @@ afterLevel s e v j this next =
       | false ↦ elim (leb v (suc j)) [ true ↦ record { end = Stopped; levels = suc j; last = this } | false ↦ next ]
     ]
 
+-- the exact search as one more level after level j: F = C = M, its window m replaces the named one only if M is better, kept is 0
+abbrev pub exactEnd : Sense → (j : ℕ) → (before m : Spot) → Quick
+exactEnd s j before m = record { end = Exact; levels = suc (suc j); last = record { window = replaced s before m; far = m .area; kept = 0 } }
+
 -- the run from level j on, with `left` levels after it before the exact search
-unfoldable pub runFrom : Sense → List Rect → (n w e v left j : ℕ) → Spot → Quick
-runFrom s rs n w e v zero j before =
-    let this = levelOf s rs n w (tileSide w j) before in
-    let next : Quick = record { end = Exact; levels = suc (suc j); last = exactLevel s (this .window) (extreme s rs n w) } in
-    afterLevel s e v j this next
-runFrom s rs n w e v (suc left) j before =
-    let this = levelOf s rs n w (tileSide w j) before in
-    let next = runFrom s rs n w e v left (suc j) (this .window) in
-    afterLevel s e v j this next
+unfoldable pub runFrom : Sense → List Rect → (n w e v left j : ℕ) → Quick
+runFrom s rs n w e v zero j = let this = levelAt s rs n w j in afterLevel s e v j this (exactEnd s j (this .window) (extreme s rs n w))
+runFrom s rs n w e v (suc left) j = afterLevel s e v j (levelAt s rs n w j) (runFrom s rs n w e v left (suc j))
 
 -- the quick run for an extreme
 unfoldable pub quickRun : Sense → List Rect → (n w e v : ℕ) → Quick
-quickRun s rs n w e v = runFrom s rs n w e v (lastLevel w) 0 (spotAt (windowArea rs w) 0 0)
+quickRun s rs n w e v = runFrom s rs n w e v (lastLevel w) 0
 
 -- density in ten-thousandths: 10000 × (F + C) / (2 × w × w), rounded down
 abbrev pub density : (w f c : ℕ) → ℕ

@@ -58,7 +58,7 @@ fn level(
     let bound = far.bound;
     Level {
         window: best,
-        bound: bound.area,
+        far: bound.area,
         kept: far.kept,
     }
 }
@@ -68,7 +68,7 @@ fn low_end(sense: Sense, level: Level) -> u64
 {
     match sense {
         Sense::Greatest => level.window.area,
-        Sense::Least => level.bound,
+        Sense::Least => level.far,
     }
 }
 
@@ -76,13 +76,13 @@ fn high_end(sense: Sense, level: Level) -> u64
     ensures { λ r. ⌜ r ≡ highEnd sense level ⌝ }
 {
     match sense {
-        Sense::Greatest => level.bound,
+        Sense::Greatest => level.far,
         Sense::Least => level.window.area,
     }
 }
 
 fn is_met(sense: Sense, e: u64, level: Level) -> bool
-    requires { ⌜ (e ≤ 1000) × (level .window .area ≤ 1099511627776) × (level .bound ≤ 1099511627776) ⌝ }
+    requires { ⌜ (e ≤ 1000) × (level .window .area ≤ 1099511627776) × (level .far ≤ 1099511627776) ⌝ }
     ensures { λ r. ⌜ r ≡ isMet sense e level ⌝ }
 {
     1000 * high_end(sense, level) <= (1000 + 2 * e) * low_end(sense, level)
@@ -90,7 +90,7 @@ fn is_met(sense: Sense, e: u64, level: Level) -> bool
 
 // What follows level j: an answer, or the next level.
 fn ending(sense: Sense, e: u64, v: u64, z: u64, j: u64, this: Level, m: Spot) -> Ending
-    requires { ⌜ (e ≤ 1000) × (this .window .area ≤ 1099511627776) × (this .bound ≤ 1099511627776) ⌝ }
+    requires { ⌜ (e ≤ 1000) × (this .window .area ≤ 1099511627776) × (this .far ≤ 1099511627776) ⌝ }
     requires { ⌜ j ≤ 4 ⌝ }
     ensures { λ r. ⌜ r ≡ endingOf sense e v z j this m ⌝ }
 {
@@ -112,7 +112,7 @@ fn ending(sense: Sense, e: u64, v: u64, z: u64, j: u64, this: Level, m: Spot) ->
         let window = geometry::better_of(sense, this.window, m);
         let last = Level {
             window,
-            bound: m.area,
+            far: m.area,
             kept: 0,
         };
         return Ending::Over(Quick {

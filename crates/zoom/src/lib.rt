@@ -22,11 +22,12 @@ pub enum End {
     Exact,
 }
 
-// A level: the best standard window, the best bloated area and the number of
-// starts whose bloated area is better than the best standard one.
+// A level: the window named, the best far area (bloated for the greatest,
+// shrunk for the least) and the number of starts whose far area is better than
+// the best standard one.
 pub struct Level {
     pub window: Spot,
-    pub bound: u64,
+    pub far: u64,
     pub kept: u64,
 }
 

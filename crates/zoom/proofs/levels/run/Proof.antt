@@ -1,5 +1,5 @@
--- `zoom::levels::run` meets its contract. The loop's invariant: the run from level j on, with the window that stands, is the whole run's answer.
--- The measure is the number of levels left. Assumes nothing.
+-- `zoom::levels::run` meets its contract. The loop's invariant: the run from level j on is the whole run's answer, and after the window that
+-- stands comes level j. The measure is the number of levels left. Assumes nothing.
 use Prim.Native.Nat.{_-_}
 use mathlib.Core.Path.{sym, _∙_}
 use native.Mathlib.Omega.{arith}
@@ -40,7 +40,7 @@ ending-requires c κs =
     let so-far = c .before .before .before .before .loop .inv in
     let p = start .pre .1 .0 in
     let small = run-small _ _ _ _ _ _ _ _ _ _ _ _ _ so-far (p .0) (c .before .level .result) (p .1) (p .2) (c .before .level .ensures .0) in
-    ((p .3, small .window, small .bound), run-deep _ _ _ _ _ _ _ _ _ _ _ _ _ so-far (p .0))
+    ((p .3, small .window, small .far), run-deep _ _ _ _ _ _ _ _ _ _ _ _ _ so-far (p .0))
 
 returns : tie.Need-returns Inv-loop μ-loop
 returns c =
