@@ -6,7 +6,7 @@ use geometry::smaller;
 ghost use Prim.Native.Nat.{ℕ, _+_, _-_, _*_, _≤_, _<_};
 ghost use mathlib.Core.Path.{_≡_};
 ghost use lib.ListN.{length, getD};
-ghost use Rattle.geometry.specs.Layout.{rectAt};
+ghost use Rattle.geometry.specs.Overlaps.{rectAt};
 ghost use Rattle.fill.specs.Free.{grown, freeFrom, aroundFrom, isEmpty, meeting, Within};
 ghost use Rattle.fill.specs.Limits.{Small};
 

@@ -13,6 +13,7 @@ use lib.Seq.{take-set-lt, drop-set-lt, length-take-le}
 use Rattle.geometry.specs.declared.Rect.{Rect}
 use Rattle.geometry.specs.Layout.{rectsOf}
 use Rattle.geometry.proofs.Tables.{rects-length}
+use Rattle.fill.specs.Judge.{tileIndex}
 use Rattle.jobfile.specs.declared.Head.{Head}
 use Rattle.jobfile.specs.declared.State.{State}
 use Rattle.jobfile.specs.declared.Form.{Form}
@@ -21,7 +22,7 @@ use Rattle.jobfile.specs.declared.Turn.{Turn}
 use Rattle.jobfile.specs.declared.Turn.the-variants.{Before, Shapes, Fills, Done}
 use Rattle.jobfile.specs.Limits.{mostTiles}
 use Rattle.jobfile.specs.Forms.{tilesAcross, agrees}
-use Rattle.jobfile.specs.Faults.{Standing, nothing, noHead, inTurn, tileIndex, lineFault, standsAfter}
+use Rattle.jobfile.specs.Faults.{Standing, nothing, noHead, inTurn, lineFault, standsAfter}
 use Rattle.jobfile.specs.Held.{tileCount, standing, GoodHead, Sound, Held, withShape, Entered}
 use Rattle.jobfile.proofs.Tests.{unless-none}
 use Rattle.jobfile.proofs.Heads.{agreement}
@@ -144,24 +145,24 @@ module _ (s : State) (rects amounts : List ℕ) (k : Held s rects amounts) where
   fill-good i j p e = no-fill-fault (standing s rects amounts) i j p (no-fault (standing s rects amounts) (Fill i j p) e .own)
 
   on-fill : (i j p : ℕ) → lineFault (standing s rects amounts) (Fill i j p) ≡ 0 →
-      Entered s rects amounts (Fill i j p) (record { turn = Fills; head = s .head; count = s .count }) rects (set amounts (tileIndex (s .head) i j) p)
+      Entered s rects amounts (Fill i j p) (record { turn = Fills; head = s .head; count = s .count }) rects (set amounts (tileIndex (tilesAcross (s .head)) i j) p)
   unfolding standsAfter
   on-fill i j p e =
-      entered s rects amounts (Fill i j p) (record { turn = Fills; head = s .head; count = s .count }) rects (set amounts (tileIndex (s .head) i j) p) k e
+      entered s rects amounts (Fill i j p) (record { turn = Fills; head = s .head; count = s .count }) rects (set amounts (tileIndex (tilesAcross (s .head)) i j) p) k e
       (ap (λ (l : List ℕ). record { turn = Fills; head = s .head; shapes = rectsOf (take (4 * s .count) rects); amounts = l })
-      (take-set-lt (tileCount (s .head)) amounts (tileIndex (s .head) i j) p place))
+      (take-set-lt (tileCount (s .head)) amounts (tileIndex (tilesAcross (s .head)) i j) p place))
       (λ sound.
       record {
         room = k .room;
-        cells = length-set amounts (tileIndex (s .head) i j) p ∙ k .cells;
+        cells = length-set amounts (tileIndex (tilesAcross (s .head)) i j) p ∙ k .cells;
         count = k .count;
         tiles = k .tiles;
         behind = k .behind;
-        beyond = drop-set-lt (tileCount (s .head)) amounts (tileIndex (s .head) i j) p place ∙ k .beyond;
+        beyond = drop-set-lt (tileCount (s .head)) amounts (tileIndex (tilesAcross (s .head)) i j) p place ∙ k .beyond;
         sound = sound;
       })
     where
-      place : tileIndex (s .head) i j < tileCount (s .head)
+      place : tileIndex (tilesAcross (s .head)) i j < tileCount (s .head)
       place = digits-lt (fill-good i j p e .row) (fill-good i j p e .column)
 
   on-end : lineFault (standing s rects amounts) End ≡ 0 →
@@ -189,7 +190,7 @@ module _ (s : State) (rects amounts : List ℕ) (k : Held s rects amounts) where
   enter-shape f r rects′ q e new = rw (q, new) (on-shape r (rw q at e))
 
   pub fill-space : (f : Form) (i j p : ℕ) → f ≡ Fill i j p → lineFault (standing s rects amounts) f ≡ 0 →
-      ((tilesAcross (s .head) ≤ 64) × (i < tilesAcross (s .head)) × (j < tilesAcross (s .head))) × (tileIndex (s .head) i j < length amounts)
+      ((tilesAcross (s .head) ≤ 64) × (i < tilesAcross (s .head)) × (j < tilesAcross (s .head))) × (tileIndex (tilesAcross (s .head)) i j < length amounts)
   fill-space f i j p q e =
       ((few-across (s .head) (head .agreement), g .column, g .row), omega (arith, digits-lt (g .row) (g .column), few-tiles (s .head) (head .agreement), k .cells))
     where
@@ -203,7 +204,7 @@ module _ (s : State) (rects amounts : List ℕ) (k : Held s rects amounts) where
           (λ h n. let z : _≡_ {A = ℕ} 0 1 = cc in omega arith))
 
   pub enter-fill : (f : Form) (i j p : ℕ) (amounts′ : List ℕ) → f ≡ Fill i j p → lineFault (standing s rects amounts) f ≡ 0 →
-      amounts′ ≡ set amounts (tileIndex (s .head) i j) p →
+      amounts′ ≡ set amounts (tileIndex (tilesAcross (s .head)) i j) p →
       Entered s rects amounts f (record { turn = Fills; head = s .head; count = s .count }) rects amounts′
   enter-fill f i j p amounts′ q e new = rw (q, new) (on-fill i j p (rw q at e))
 

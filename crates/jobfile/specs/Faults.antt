@@ -1,12 +1,13 @@
 -- Document 01, "Faults that come from the input" and "Faults that come from what already stands": the faults of one line.
-use Prim.Native.Nat.{ℕ, _+_, _*_}
-use mathlib.Core.Bool.{Bool, true, false, _&&_}
+use Prim.Native.Nat.{ℕ, _*_}
+use mathlib.Core.Bool.{Bool, true, false, not, _&&_}
 use mathlib.Core.List.{List, [], _∷_, _++_}
 use lib.Dec.{leb, ltb, eqb}
-use lib.ListN.{length, getD, set, replicate}
+use lib.ListN.{length, set, replicate}
 use Rattle.geometry.specs.declared.Rect.{Rect}
-use Rattle.geometry.specs.Layout.{coveredArea}
+use Rattle.geometry.specs.Layout.{sharesSquare}
 use Rattle.fill.specs.Eligible.{tile, fillableArea}
+use Rattle.fill.specs.Judge.{tileIndex, numberAt}
 use Rattle.jobfile.specs.declared.Head.{Head}
 use Rattle.jobfile.specs.declared.Form.{Form}
 use Rattle.jobfile.specs.declared.Form.the-variants.{Unknown, Start, Shape, Fill, End}
@@ -47,10 +48,6 @@ inTurn Fills (Fill i j p) = true
 inTurn Fills End = true
 inTurn Done f = false
 
--- where tile (i, j) stands in a table of amounts
-abbrev pub tileIndex : Head → (i j : ℕ) → ℕ
-tileIndex h i j = j * tilesAcross h + i
-
 -- a number where a test fails, else what the tests after it give
 abbrev pub unless : Bool → ℕ → ℕ → ℕ
 unless good number other = elim good [ true ↦ other | false ↦ number ]
@@ -67,7 +64,7 @@ shapeFault st r =
     -- 8: 256 rectangles stand already
     (unless (ltb (length (st .shapes)) mostShapes) 8
     -- 9: it shares a unit square with one that stands
-    (unless (eqb (coveredArea (st .shapes) r) 0) 9
+    (unless (not (sharesSquare (st .shapes) r)) 9
     0))
 
 -- the faults of a fill
@@ -76,7 +73,7 @@ fillFault st i j p =
     -- 7: I or J is not below N/(W/R)
     unless (ltb i (tilesAcross (st .head)) && ltb j (tilesAcross (st .head))) 7
     -- 10: the tile has a fill already, which is an amount other than 0, since fault 3 refuses P = 0
-    (unless (eqb (getD (st .amounts) (tileIndex (st .head) i j) 0) 0) 10
+    (unless (eqb (numberAt (st .amounts) (tilesAcross (st .head)) i j) 0) 10
     -- 11: P exceeds the tile's fillable area
     (unless (leb p (fillableArea (st .head .gap) (st .shapes) (tile (tileSide (st .head)) i j))) 11
     0))
@@ -106,5 +103,5 @@ standsAfter st Unknown = st
 standsAfter st (Start h) = record { turn = Shapes; head = h; shapes = []; amounts = replicate (tilesAcross h * tilesAcross h) 0 }
 standsAfter st (Shape r) = record { turn = Shapes; head = st .head; shapes = st .shapes ++ (r ∷ []); amounts = st .amounts }
 standsAfter st (Fill i j p) =
-    record { turn = Fills; head = st .head; shapes = st .shapes; amounts = set (st .amounts) (tileIndex (st .head) i j) p }
+    record { turn = Fills; head = st .head; shapes = st .shapes; amounts = set (st .amounts) (tileIndex (tilesAcross (st .head)) i j) p }
 standsAfter st End = record { turn = Done; head = st .head; shapes = st .shapes; amounts = st .amounts }

@@ -4,11 +4,12 @@ use mathlib.Core.Path.{_≡_}
 use mathlib.Core.Bool.{true, false}
 use mathlib.Core.List.{List, [], _∷_}
 use lib.Dec.{ltb, eqb}
-use lib.ListN.{length, getD, take, drop, set, replicate}
+use lib.ListN.{length, take, drop, set, replicate}
 use Rattle.geometry.specs.declared.Rect.{Rect}
 use Rattle.geometry.specs.Layout.{Disjoint, rectsOf}
 use Rattle.spelling.specs.Text.{lineLength}
 use Rattle.fill.specs.Eligible.{tile, fillableArea}
+use Rattle.fill.specs.Judge.{numberAt}
 use Rattle.jobfile.specs.declared.Head.{Head}
 use Rattle.jobfile.specs.declared.Form.{Form}
 use Rattle.jobfile.specs.declared.Form.the-variants.{Unknown, Start, Shape, Fill, End}
@@ -20,7 +21,7 @@ use Rattle.jobfile.specs.declared.Ending.{Ending}
 use Rattle.jobfile.specs.declared.Job.{Job}
 use Rattle.jobfile.specs.Limits.{mostShapes}
 use Rattle.jobfile.specs.Forms.{formOf, headInRange, rectInRange, tileSide, tilesAcross, agrees}
-use Rattle.jobfile.specs.Faults.{Standing, nothing, fitsLayout, tileIndex, lineFault, standsAfter}
+use Rattle.jobfile.specs.Faults.{Standing, nothing, fitsLayout, lineFault, standsAfter}
 use Rattle.jobfile.specs.File.{refused, asJob}
 
 -- where a form comes in a file; 0 for a line that is none of the spellings
@@ -60,7 +61,7 @@ pub record Sound (st : Standing) : Type 0 where
   pub sized : length (st .amounts) ≡ tileCount (st .head)
   pub unfilled : st .turn ≡ Shapes → st .amounts ≡ replicate (tileCount (st .head)) 0
   pub fillable : (i j : ℕ) → i < tilesAcross (st .head) → j < tilesAcross (st .head) →
-      getD (st .amounts) (tileIndex (st .head) i j) 0 ≤ fillableArea (st .head .gap) (st .shapes) (tile (tileSide (st .head)) i j)
+      numberAt (st .amounts) (tilesAcross (st .head)) i j ≤ fillableArea (st .head .gap) (st .shapes) (tile (tileSide (st .head)) i j)
 
 -- a state and its tables hold what stands: 0 behind the rectangles and behind the amounts
 pub record Held (s : State) (rects amounts : List ℕ) : Type 0 where

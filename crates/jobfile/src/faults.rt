@@ -11,12 +11,13 @@ use crate::forms::tiles_across;
 use crate::held::tile_place;
 use crate::limits::MOST_SHAPES;
 use fill::fillable;
+use fill::tile_box;
 use geometry::Rect;
 use geometry::shares_square;
 ghost use mathlib.Core.Path.{_≡_};
 ghost use mathlib.Core.Bool.{true};
 ghost use mathlib.Core.List.{[]};
-ghost use Prim.Native.Nat.{_+_, _*_, _≤_, _<_};
+ghost use Prim.Native.Nat.{_*_, _≤_, _<_};
 ghost use lib.ListN.{length, take};
 ghost use Rattle.geometry.specs.Layout.{rectsOf, Drawn};
 ghost use Rattle.fill.specs.Eligible.{tile, fillableArea};
@@ -88,20 +89,6 @@ fn shape_fault(s: State, rects: &[u64], r: Rect) -> u64
         return 9;
     }
     0
-}
-
-// Tile (i, j) of side d.
-fn tile_box(d: u64, i: u64, j: u64) -> Rect
-    requires { ⌜ ((i + 1) * d ≤ 65535) × ((j + 1) * d ≤ 65535) ⌝ }
-    requires { ⌜ (i < 65535) × (j < 65535) ⌝ }
-    ensures { λ r. ⌜ r ≡ tile d i j ⌝ }
-{
-    Rect {
-        x1: i * d,
-        y1: j * d,
-        x2: (i + 1) * d,
-        y2: (j + 1) * d,
-    }
 }
 
 // The fillable area of tile (i, j).

@@ -18,7 +18,7 @@ use Rattle.zoom.proofs.Bracket.{Accurate, quick-run-promises}
 use Rattle.fill.specs.declared.Bound.{Bound}
 use Rattle.fill.specs.declared.Verdict.the-variants.{Safe, Broken}
 use Rattle.fill.specs.Eligible.{tile, fillableArea}
-use Rattle.fill.specs.Judge.{amountAt, verdictOf}
+use Rattle.fill.specs.Judge.{numberAt, verdictOf}
 use Rattle.fill.specs.Placement.{Placement, placedSum, keeps}
 use Rattle.fill.proofs.Promise.{safe-keeps, broken-breaks}
 use Rattle.fill.proofs.Placing.{placement}
@@ -36,7 +36,7 @@ pub record Runs (st : Standing) : Type 0 where
   pub layout-tiles : st .head .size ≡ tilesAcross (st .head) * tileSide (st .head)
   pub cut-fits : st .head .cut ≤ tilesAcross (st .head)
   pub amounts-fit : (i j : ℕ) → i < tilesAcross (st .head) → j < tilesAcross (st .head) →
-      amountAt (st .amounts) (tilesAcross (st .head)) i j ≤ fillableArea (st .head .gap) (st .shapes) (tile (tileSide (st .head)) i j)
+      numberAt (st .amounts) (tilesAcross (st .head)) i j ≤ fillableArea (st .head .gap) (st .shapes) (tile (tileSide (st .head)) i j)
 
 -- ---- the exact run
 
