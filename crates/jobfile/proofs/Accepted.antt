@@ -24,8 +24,8 @@ use Rattle.jobfile.specs.declared.Turn.the-variants.{Before}
 use Rattle.jobfile.specs.Limits.{mostShapes}
 use Rattle.jobfile.specs.Forms.{tileSide, tilesAcross}
 use Rattle.jobfile.specs.Faults.{Standing, fitsLayout}
-use Rattle.jobfile.specs.File.{accepted, outcomeOf, tableOf, padded}
-use Rattle.jobfile.specs.Held.{tileCount, GoodShapes, Sound}
+use Rattle.jobfile.specs.File.{accepted, outcomeOf}
+use Rattle.jobfile.specs.Held.{tileCount, GoodShapes, Sound, tableOf, padded}
 use Rattle.jobfile.proofs.Heads.{HeadFacts, head-facts, positive}
 use Rattle.jobfile.proofs.Tables.{length-table, rects-of-table, table-small}
 use Rattle.jobfile.proofs.Sound.{sound-after, sound-nothing}

@@ -17,7 +17,7 @@ use Rattle.fill.specs.Judge.{tileIndex}
 use Rattle.jobfile.specs.declared.Head.{Head}
 use Rattle.jobfile.specs.declared.State.{State}
 use Rattle.jobfile.specs.declared.Form.{Form}
-use Rattle.jobfile.specs.declared.Form.the-variants.{Unknown, Start, Shape, Fill, End}
+use Rattle.jobfile.specs.declared.Form.the-variants.{Unknown, Heading, Shape, Fill, End}
 use Rattle.jobfile.specs.declared.Turn.{Turn}
 use Rattle.jobfile.specs.declared.Turn.the-variants.{Before, Shapes, Fills, Done}
 use Rattle.jobfile.specs.Limits.{mostTiles}
@@ -29,11 +29,11 @@ use Rattle.jobfile.proofs.Heads.{agreement}
 use Rattle.jobfile.proofs.Tables.{stored-rects, stored-behind, stored-length, zeros, take-zeros, drop-zeros, zeros-later}
 use Rattle.jobfile.proofs.Sound.{NoFault, no-fault, no-shape-fault, NoFillFault, no-fill-fault, after-head, sound-after}
 
-start-turn : (t : Turn) (h : Head) → inTurn t (Start h) ≡ true → t ≡ Before
-start-turn Before h e = refl
-start-turn Shapes h e = absurd (false≢true e)
-start-turn Fills h e = absurd (false≢true e)
-start-turn Done h e = absurd (false≢true e)
+heading-turn : (t : Turn) (h : Head) → inTurn t (Heading h) ≡ true → t ≡ Before
+heading-turn Before h e = refl
+heading-turn Shapes h e = absurd (false≢true e)
+heading-turn Fills h e = absurd (false≢true e)
+heading-turn Done h e = absurd (false≢true e)
 
 -- a good head has at most 64 tiles across, so at most 4,096
 pub few-across : (h : Head) → agrees h ≡ true → tilesAcross h ≤ mostTiles
@@ -77,11 +77,11 @@ entered s rects amounts f s′ rects′ amounts′ k e same held =
     record { stands = same; held = held (rw same (sound-after (standing s rects amounts) f (k .sound) e)) }
 
 module _ (s : State) (rects amounts : List ℕ) (k : Held s rects amounts) where
-  on-start : (h : Head) → lineFault (standing s rects amounts) (Start h) ≡ 0 →
-      Entered s rects amounts (Start h) (record { turn = Shapes; head = h; count = 0 }) rects amounts
+  on-heading : (h : Head) → lineFault (standing s rects amounts) (Heading h) ≡ 0 →
+      Entered s rects amounts (Heading h) (record { turn = Shapes; head = h; count = 0 }) rects amounts
   unfolding standsAfter rectsOf
-  on-start h e =
-      entered s rects amounts (Start h) (record { turn = Shapes; head = h; count = 0 }) rects amounts k e
+  on-heading h e =
+      entered s rects amounts (Heading h) (record { turn = Shapes; head = h; count = 0 }) rects amounts k e
       (ap (λ (l : List ℕ). record { turn = Shapes; head = h; shapes = []; amounts = l }) clean)
       (λ sound.
       record {
@@ -94,14 +94,14 @@ module _ (s : State) (rects amounts : List ℕ) (k : Held s rects amounts) where
         sound = sound;
       })
     where
-      g : NoFault (standing s rects amounts) (Start h)
-      g = no-fault (standing s rects amounts) (Start h) e
+      g : NoFault (standing s rects amounts) (Heading h)
+      g = no-fault (standing s rects amounts) (Heading h) e
 
       few : tileCount h ≤ 4096
       few = few-tiles h (unless-none (agrees h) 5 0 (lit< tt) (g .own) .0)
 
       z : Empty s rects amounts
-      z = empty-before s rects amounts k (start-turn (s .turn) h (g .turn))
+      z = empty-before s rects amounts k (heading-turn (s .turn) h (g .turn))
 
       clean : take (tileCount h) amounts ≡ zeros (tileCount h)
       clean = ap (take (tileCount h)) (z .amounts-zero) ∙ take-zeros (tileCount h) 4096 few
@@ -177,9 +177,9 @@ module _ (s : State) (rects amounts : List ℕ) (k : Held s rects amounts) where
   pub enter-unknown : (f : Form) → f ≡ Unknown → lineFault (standing s rects amounts) f ≡ 0 → Entered s rects amounts f s rects amounts
   enter-unknown f q e = absurd (false≢true (no-fault (standing s rects amounts) Unknown (rw q at e) .spelled))
 
-  pub enter-start : (f : Form) (h : Head) → f ≡ Start h → lineFault (standing s rects amounts) f ≡ 0 →
+  pub enter-heading : (f : Form) (h : Head) → f ≡ Heading h → lineFault (standing s rects amounts) f ≡ 0 →
       Entered s rects amounts f (record { turn = Shapes; head = h; count = 0 }) rects amounts
-  enter-start f h q e = rw q (on-start h (rw q at e))
+  enter-heading f h q e = rw q (on-heading h (rw q at e))
 
   pub shape-space : (f : Form) (r : Rect) → f ≡ Shape r → lineFault (standing s rects amounts) f ≡ 0 → 4 * s .count + 4 ≤ length rects
   shape-space f r q e = omega (arith, shape-room r (rw q at e), k .room)

@@ -17,7 +17,7 @@ use Rattle.fill.specs.Limits.{Small}
 use Rattle.fill.specs.Judge.{tileIndex, numberAt}
 use Rattle.jobfile.specs.declared.Head.{Head}
 use Rattle.jobfile.specs.declared.Form.{Form}
-use Rattle.jobfile.specs.declared.Form.the-variants.{Unknown, Start, Shape, Fill, End}
+use Rattle.jobfile.specs.declared.Form.the-variants.{Unknown, Heading, Shape, Fill, End}
 use Rattle.jobfile.specs.declared.State.{State}
 use Rattle.jobfile.specs.declared.Turn.{Turn}
 use Rattle.jobfile.specs.declared.Turn.the-variants.{Before, Shapes, Fills, Done}
@@ -42,17 +42,17 @@ by-rank Done n = false
 turn-rank : (t : Turn) (f : Form) → by-rank t (rankOf f) ≡ inTurn t f
 unfolding by-rank
 turn-rank Before Unknown = refl
-turn-rank Before (Start h) = refl
+turn-rank Before (Heading h) = refl
 turn-rank Before (Shape r) = refl
 turn-rank Before (Fill i j p) = refl
 turn-rank Before End = refl
 turn-rank Shapes Unknown = refl
-turn-rank Shapes (Start h) = refl
+turn-rank Shapes (Heading h) = refl
 turn-rank Shapes (Shape r) = refl
 turn-rank Shapes (Fill i j p) = refl
 turn-rank Shapes End = refl
 turn-rank Fills Unknown = refl
-turn-rank Fills (Start h) = refl
+turn-rank Fills (Heading h) = refl
 turn-rank Fills (Shape r) = refl
 turn-rank Fills (Fill i j p) = refl
 turn-rank Fills End = refl
@@ -77,7 +77,7 @@ module _ (t : Turn) (f : Form) (n : ℕ) (e : n ≡ rankOf f) where
 -- a line that is one of the spellings
 known-rank : (f : Form) → ltb 0 (rankOf f) ≡ known f
 known-rank Unknown = refl
-known-rank (Start h) = refl
+known-rank (Heading h) = refl
 known-rank (Shape r) = refl
 known-rank (Fill i j p) = refl
 known-rank End = refl
@@ -210,8 +210,8 @@ module _ (s : State) (rects amounts : List ℕ) (f : Form) where
   pub own-unknown : f ≡ Unknown → 2 ≡ ownFault (standing s rects amounts) f
   own-unknown e = rw e
 
-  pub own-start : (h : Head) (n : ℕ) → f ≡ Start h → n ≡ unless (agrees h) 5 0 → n ≡ ownFault (standing s rects amounts) f
-  own-start h n e k = rw e k
+  pub own-heading : (h : Head) (n : ℕ) → f ≡ Heading h → n ≡ unless (agrees h) 5 0 → n ≡ ownFault (standing s rects amounts) f
+  own-heading h n e k = rw e k
 
   pub own-shape : (r : Rect) (n : ℕ) → f ≡ Shape r → n ≡ shapeFault (standing s rects []) r → n ≡ ownFault (standing s rects amounts) f
   unfolding shapeFault

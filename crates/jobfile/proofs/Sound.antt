@@ -19,7 +19,7 @@ use Rattle.spelling.proofs.Numerals.{both}
 use Rattle.fill.specs.Judge.{tileIndex, numberAt}
 use Rattle.jobfile.specs.declared.Head.{Head}
 use Rattle.jobfile.specs.declared.Form.{Form}
-use Rattle.jobfile.specs.declared.Form.the-variants.{Unknown, Start, Shape, Fill, End}
+use Rattle.jobfile.specs.declared.Form.the-variants.{Unknown, Heading, Shape, Fill, End}
 use Rattle.jobfile.specs.declared.Turn.{Turn}
 use Rattle.jobfile.specs.declared.Turn.the-variants.{Before, Shapes, Fills, Done}
 use Rattle.jobfile.specs.Limits.{mostShapes}
@@ -87,9 +87,9 @@ shape-turn Fills r e = absurd (false≢true e)
 shape-turn Done r e = absurd (false≢true e)
 
 -- what is in turn and no head comes after the head
-pub after-head : (t : Turn) (f : Form) → inTurn t f ≡ true → ((h : Head) → f ≡ Start h → ⊥) → t ≡ Before → ⊥
+pub after-head : (t : Turn) (f : Form) → inTurn t f ≡ true → ((h : Head) → f ≡ Heading h → ⊥) → t ≡ Before → ⊥
 after-head Before Unknown e n b = absurd (false≢true e)
-after-head Before (Start h) e n b = n h refl
+after-head Before (Heading h) e n b = n h refl
 after-head Before (Shape r) e n b = absurd (false≢true e)
 after-head Before (Fill i j p) e n b = absurd (false≢true e)
 after-head Before End e n b = absurd (false≢true e)
@@ -126,9 +126,9 @@ amount-set t l i j p u v bound e hi hj hu hv fits old = go (ℕ-discrete (v * t 
 
 -- ---- one more line
 
-after-start : (st : Standing) (h : Head) → NoFault st (Start h) → Sound (standsAfter st (Start h))
+after-heading : (st : Standing) (h : Head) → NoFault st (Heading h) → Sound (standsAfter st (Heading h))
 unfolding standsAfter GoodShapes Disjoint
-after-start st h g =
+after-heading st h g =
     record {
       start = not-before;
       headed = λ n. record { range = g .range; agreement = unless-none (agrees h) 5 0 (lit< tt) (g .own) .0 };
@@ -195,7 +195,7 @@ after-end st s g =
 
 sound-next : (st : Standing) (f : Form) → Sound st → NoFault st f → Sound (standsAfter st f)
 sound-next st Unknown s g = absurd (false≢true (g .spelled))
-sound-next st (Start h) s g = after-start st h g
+sound-next st (Heading h) s g = after-heading st h g
 sound-next st (Shape r) s g = after-shape st r s g
 sound-next st (Fill i j p) s g = after-fill st i j p s g
 sound-next st End s g = after-end st s g

@@ -10,7 +10,7 @@ use Rattle.fill.specs.Eligible.{tile, fillableArea}
 use Rattle.fill.specs.Judge.{tileIndex, numberAt}
 use Rattle.jobfile.specs.declared.Head.{Head}
 use Rattle.jobfile.specs.declared.Form.{Form}
-use Rattle.jobfile.specs.declared.Form.the-variants.{Unknown, Start, Shape, Fill, End}
+use Rattle.jobfile.specs.declared.Form.the-variants.{Unknown, Heading, Shape, Fill, End}
 use Rattle.jobfile.specs.declared.Turn.{Turn}
 use Rattle.jobfile.specs.declared.Turn.the-variants.{Before, Shapes, Fills, Done}
 use Rattle.jobfile.specs.Limits.{mostShapes}
@@ -32,17 +32,17 @@ nothing = record { turn = Before; head = noHead; shapes = []; amounts = [] }
 -- whether a form comes in turn: the head first and once, then rectangles, then fills, then the end, and nothing after it
 abbrev pub inTurn : Turn → Form → Bool
 inTurn Before Unknown = false
-inTurn Before (Start h) = true
+inTurn Before (Heading h) = true
 inTurn Before (Shape r) = false
 inTurn Before (Fill i j p) = false
 inTurn Before End = false
 inTurn Shapes Unknown = false
-inTurn Shapes (Start h) = false
+inTurn Shapes (Heading h) = false
 inTurn Shapes (Shape r) = true
 inTurn Shapes (Fill i j p) = true
 inTurn Shapes End = true
 inTurn Fills Unknown = false
-inTurn Fills (Start h) = false
+inTurn Fills (Heading h) = false
 inTurn Fills (Shape r) = false
 inTurn Fills (Fill i j p) = true
 inTurn Fills End = true
@@ -81,14 +81,14 @@ fillFault st i j p =
 -- the faults that a form of its own kind may have; 5: the head disagrees. An unknown form does not come here: `lineFault`
 abbrev pub ownFault : Standing → Form → ℕ
 ownFault st Unknown = 2
-ownFault st (Start h) = unless (agrees h) 5 0
+ownFault st (Heading h) = unless (agrees h) 5 0
 ownFault st (Shape r) = shapeFault st r
 ownFault st (Fill i j p) = fillFault st i j p
 ownFault st End = 0
 
 abbrev pub known : Form → Bool
 known Unknown = false
-known (Start h) = true
+known (Heading h) = true
 known (Shape r) = true
 known (Fill i j p) = true
 known End = true
@@ -100,7 +100,7 @@ lineFault st f = unless (known f) 2 (unless (inRange f) 3 (unless (inTurn (st .t
 -- what stands after a good line, which is never an unknown form
 unfoldable pub standsAfter : Standing → Form → Standing
 standsAfter st Unknown = st
-standsAfter st (Start h) = record { turn = Shapes; head = h; shapes = []; amounts = replicate (tilesAcross h * tilesAcross h) 0 }
+standsAfter st (Heading h) = record { turn = Shapes; head = h; shapes = []; amounts = replicate (tilesAcross h * tilesAcross h) 0 }
 standsAfter st (Shape r) = record { turn = Shapes; head = st .head; shapes = st .shapes ++ (r ∷ []); amounts = st .amounts }
 standsAfter st (Fill i j p) =
     record { turn = Fills; head = st .head; shapes = st .shapes; amounts = set (st .amounts) (tileIndex (tilesAcross (st .head)) i j) p }

@@ -32,7 +32,7 @@ fn rank(f: Form) -> u64
 {
     match f {
         Form::Unknown => 0,
-        Form::Start(_) => 1,
+        Form::Heading(_) => 1,
         Form::Shape(_) => 2,
         Form::Fill {
             column: _,
@@ -138,7 +138,7 @@ fn own_fault(s: State, f: Form, rects: &[u64], amounts: &[u64]) -> u64
 {
     match f {
         Form::Unknown => 2,
-        Form::Start(h) => head_fault(h),
+        Form::Heading(h) => head_fault(h),
         Form::Shape(r) => shape_fault(s, rects, r),
         Form::Fill {
             column,

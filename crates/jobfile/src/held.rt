@@ -70,7 +70,7 @@ pub fn enter(s: State, f: Form, rects: &mut [u64], amounts: &mut [u64]) -> State
     let count = s.count;
     match f {
         Form::Unknown => s,
-        Form::Start(h) => State {
+        Form::Heading(h) => State {
             turn: Turn::Shapes,
             head: h,
             count: 0,

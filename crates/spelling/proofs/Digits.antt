@@ -11,7 +11,8 @@ use lib.Dec.{leb, eqb}
 use lib.ListN.{length, getD, drop, drop-of-length-le, length-drop}
 use lib.Seq.{drop-cons, drop-drop, getD-drop}
 use Rattle.spelling.specs.declared.Numeral.{Numeral}
-use Rattle.spelling.specs.Decimal.{isDigit, digitsOf, digitFirst, valueFrom, spells, isNumeral, asNumeral}
+use Rattle.spelling.specs.Decimal.{isDigit, digitsOf, valueFrom, spells, isNumeral}
+use Rattle.spelling.specs.Scanning.{digitFirst, asNumeral}
 use Rattle.spelling.proofs.Numerals.{canonical, canonical-test, digits-all, digit-from, is-digit}
 
 -- ---- the digit with which a text begins

@@ -9,7 +9,8 @@ use borrow.Author.Tests.{eq-eqb, ne-eqb}
 use lib.Dec.{eqb}
 use lib.ListN.{length, getD, take, drop, drop-of-length-le}
 use lib.Seq.{drop-cons}
-use Rattle.spelling.specs.Text.{lineLength, inFront, parts}
+use Rattle.spelling.specs.Text.{inFront, parts}
+use Rattle.spelling.specs.Scanning.{lineLength}
 
 module _ (b : ℕ) (s : List ℕ) where
   line-ends : eqb b 10 ≡ true → lineLength (b ∷ s) ≡ 0

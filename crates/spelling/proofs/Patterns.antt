@@ -8,7 +8,8 @@ use borrow.Author.Tests.{eq-eqb, ne-eqb}
 use lib.ListN.{length, getD, replicate}
 use Rattle.spelling.specs.declared.Reading.{Reading}
 use Rattle.spelling.specs.Decimal.{decimal, digitsOf, pastDigits, valueFrom, isNumeral}
-use Rattle.spelling.specs.Pattern.{isPlace, places, spell, withNumber, readAs, asReading}
+use Rattle.spelling.specs.Pattern.{isPlace, spell, withNumber, readAs}
+use Rattle.spelling.specs.Scanning.{places, asReading}
 use Rattle.spelling.proofs.Numerals.{no-numeral}
 
 module _ (c : ℕ) (p : List ℕ) (e : isPlace c ≡ true) where

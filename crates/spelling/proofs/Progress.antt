@@ -12,8 +12,9 @@ use lib.ListN.{length, getD, set, drop, replicate, length-append, length-replica
 use lib.Seq.{drop-cons, drop-drop, set-append-seam, drop-length}
 use Rattle.spelling.specs.declared.Numeral.{Numeral}
 use Rattle.spelling.specs.declared.Reading.{Reading}
-use Rattle.spelling.specs.Decimal.{digitsOf, pastDigits, valueFrom, isNumeral, asNumeral}
-use Rattle.spelling.specs.Pattern.{isPlace, places, withNumber, readAs, asReading}
+use Rattle.spelling.specs.Decimal.{digitsOf, pastDigits, valueFrom, isNumeral}
+use Rattle.spelling.specs.Scanning.{places, asReading, asNumeral}
+use Rattle.spelling.specs.Pattern.{isPlace, withNumber, readAs}
 use Rattle.spelling.proofs.Numerals.{past-is-drop}
 use Rattle.spelling.proofs.Digits.{number, no-number, digits-within}
 use Rattle.spelling.proofs.Patterns.{places-place, places-byte, read-number, read-no-number, read-same, read-other, read-short}

@@ -16,7 +16,7 @@ use Rattle.fill.specs.Judge.{numberAt}
 use Rattle.spelling.specs.Text.{bytes}
 use Rattle.spelling.specs.Pattern.{spell}
 use Rattle.jobfile.specs.declared.Form.{Form}
-use Rattle.jobfile.specs.declared.Form.the-variants.{Unknown, Start, Shape, Fill, End}
+use Rattle.jobfile.specs.declared.Form.the-variants.{Unknown, Heading, Shape, Fill, End}
 use Rattle.jobfile.specs.Limits.{mostShapes}
 use Rattle.jobfile.specs.Forms.{formOf, inRange, tileSide, tilesAcross, agrees}
 use Rattle.jobfile.specs.Faults.{Standing, nothing, unless, inTurn, fitsLayout, known, ownFault, shapeFault, fillFault, lineFault}
@@ -118,7 +118,7 @@ three-small p q r a b c h k l = most-unless 12 p a (unless q b (unless r c 0)) h
 own-small : (st : Standing) (f : Form) → ownFault st f ≤ 12
 unfolding shapeFault fillFault
 own-small st Unknown = lit≤ tt
-own-small st (Start h) = most-unless 12 (agrees h) 5 0 (lit≤ tt) (lit≤ tt)
+own-small st (Heading h) = most-unless 12 (agrees h) 5 0 (lit≤ tt) (lit≤ tt)
 own-small st (Shape r) =
     three-small (fitsLayout (st .head) r) (ltb (length (st .shapes)) mostShapes) (not (sharesSquare (st .shapes) r)) 6 8 9 (lit≤ tt) (lit≤ tt) (lit≤ tt)
 own-small st (Fill i j p) =
