@@ -1,6 +1,6 @@
 -- The faults of a line, test by test, as the code finds them.
 use Prim.Native.Nat.{ℕ, suc, _*_, _≤_, _<_}
-use mathlib.Core.Path.{_≡_, refl, sym, ap, _∙_}
+use mathlib.Core.Path.{_≡_, sym, ap, _∙_}
 use mathlib.Core.Bool.{Bool, true, false}
 use mathlib.Core.List.{List, []}
 use native.Mathlib.Nat.{le-trans, lt-of-lt-of-le}
@@ -20,11 +20,11 @@ use Rattle.jobfile.specs.declared.Form.{Form}
 use Rattle.jobfile.specs.declared.Form.the-variants.{Unknown, Heading, Shape, Fill, End}
 use Rattle.jobfile.specs.declared.State.{State}
 use Rattle.jobfile.specs.declared.Turn.{Turn}
-use Rattle.jobfile.specs.declared.Turn.the-variants.{Before, Shapes, Fills, Done}
+use Rattle.jobfile.specs.declared.Turn.the-variants.{Before, Shapes, Fills}
 use Rattle.jobfile.specs.Limits.{mostShapes}
 use Rattle.jobfile.specs.Forms.{inRange, tileSide, tilesAcross, agrees}
-use Rattle.jobfile.specs.Faults.{Standing, inTurn, known, unless, fitsLayout, shapeFault, fillFault, ownFault, lineFault}
-use Rattle.jobfile.specs.Held.{rankOf, tileCount, standing, GoodHead, Held}
+use Rattle.jobfile.specs.Faults.{Standing, rankOf, known, inTurn, unless, fitsLayout, shapeFault, fillFault, ownFault, lineFault}
+use Rattle.jobfile.specs.Held.{tileCount, standing, GoodHead, Held}
 use Rattle.geometry.proofs.Tables.{rects-length}
 use Rattle.jobfile.proofs.Tables.{drawn-so-far}
 use Rattle.jobfile.proofs.Heads.{HeadFacts, head-facts, tile-end}
@@ -32,58 +32,18 @@ use Rattle.jobfile.proofs.Sound.{after-head}
 
 -- ---- the turn
 
--- the turn by where forms come in a file
-by-rank : Turn → ℕ → Bool
-by-rank Before n = eqb n 1
-by-rank Shapes n = leb 2 n
-by-rank Fills n = leb 3 n
-by-rank Done n = false
-
-turn-rank : (t : Turn) (f : Form) → by-rank t (rankOf f) ≡ inTurn t f
-unfolding by-rank
-turn-rank Before Unknown = refl
-turn-rank Before (Heading h) = refl
-turn-rank Before (Shape r) = refl
-turn-rank Before (Fill i j p) = refl
-turn-rank Before End = refl
-turn-rank Shapes Unknown = refl
-turn-rank Shapes (Heading h) = refl
-turn-rank Shapes (Shape r) = refl
-turn-rank Shapes (Fill i j p) = refl
-turn-rank Shapes End = refl
-turn-rank Fills Unknown = refl
-turn-rank Fills (Heading h) = refl
-turn-rank Fills (Shape r) = refl
-turn-rank Fills (Fill i j p) = refl
-turn-rank Fills End = refl
-turn-rank Done f = refl
-
 module _ (t : Turn) (f : Form) (n : ℕ) (e : n ≡ rankOf f) where
-  by : (u : Turn) → t ≡ u → by-rank u n ≡ inTurn t f
-  by u q = rw (e, ← q) (turn-rank t f)
-
   pub turn-before : t ≡ Before → eqb n 1 ≡ inTurn t f
-  unfolding by-rank
-  turn-before q = by Before q
+  turn-before q = rw (e, q)
 
   pub turn-shapes : t ≡ Shapes → leb 2 n ≡ inTurn t f
-  unfolding by-rank
-  turn-shapes q = by Shapes q
+  turn-shapes q = rw (e, q)
 
   pub turn-fills : t ≡ Fills → leb 3 n ≡ inTurn t f
-  unfolding by-rank
-  turn-fills q = by Fills q
-
--- a line that is one of the spellings
-known-rank : (f : Form) → ltb 0 (rankOf f) ≡ known f
-known-rank Unknown = refl
-known-rank (Heading h) = refl
-known-rank (Shape r) = refl
-known-rank (Fill i j p) = refl
-known-rank End = refl
+  turn-fills q = rw (e, q)
 
 pub known-by : (f : Form) (n : ℕ) → n ≡ rankOf f → ltb 0 n ≡ known f
-known-by f n e = rw e (known-rank f)
+known-by f n e = rw e
 
 -- ---- a head
 

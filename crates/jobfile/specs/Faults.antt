@@ -29,23 +29,22 @@ noHead = record { size = 0; window = 0; cut = 0; gap = 0; lower = 0; upper = 0; 
 abbrev pub nothing : Standing
 nothing = record { turn = Before; head = noHead; shapes = []; amounts = [] }
 
+-- where a form comes in a file; 0 for a line that is none of the spellings
+abbrev pub rankOf : Form → ℕ
+rankOf Unknown = 0
+rankOf (Heading h) = 1
+rankOf (Shape r) = 2
+rankOf (Fill i j p) = 3
+rankOf End = 4
+
+abbrev pub known : Form → Bool
+known f = ltb 0 (rankOf f)
+
 -- whether a form comes in turn: the head first and once, then rectangles, then fills, then the end, and nothing after it
 abbrev pub inTurn : Turn → Form → Bool
-inTurn Before Unknown = false
-inTurn Before (Heading h) = true
-inTurn Before (Shape r) = false
-inTurn Before (Fill i j p) = false
-inTurn Before End = false
-inTurn Shapes Unknown = false
-inTurn Shapes (Heading h) = false
-inTurn Shapes (Shape r) = true
-inTurn Shapes (Fill i j p) = true
-inTurn Shapes End = true
-inTurn Fills Unknown = false
-inTurn Fills (Heading h) = false
-inTurn Fills (Shape r) = false
-inTurn Fills (Fill i j p) = true
-inTurn Fills End = true
+inTurn Before f = eqb (rankOf f) 1
+inTurn Shapes f = leb 2 (rankOf f)
+inTurn Fills f = leb 3 (rankOf f)
 inTurn Done f = false
 
 -- a number where a test fails, else what the tests after it give
@@ -85,13 +84,6 @@ ownFault st (Heading h) = unless (agrees h) 5 0
 ownFault st (Shape r) = shapeFault st r
 ownFault st (Fill i j p) = fillFault st i j p
 ownFault st End = 0
-
-abbrev pub known : Form → Bool
-known Unknown = false
-known (Heading h) = true
-known (Shape r) = true
-known (Fill i j p) = true
-known End = true
 
 -- the lowest number of a fault that a line has, 0 for none: 2 none of the spellings, 3 out of range, 4 out of turn, then the others
 unfoldable pub lineFault : Standing → Form → ℕ

@@ -13,7 +13,6 @@ use Rattle.fill.specs.Eligible.{tile, fillableArea}
 use Rattle.fill.specs.Judge.{numberAt}
 use Rattle.jobfile.specs.declared.Head.{Head}
 use Rattle.jobfile.specs.declared.Form.{Form}
-use Rattle.jobfile.specs.declared.Form.the-variants.{Unknown, Heading, Shape, Fill, End}
 use Rattle.jobfile.specs.declared.Turn.{Turn}
 use Rattle.jobfile.specs.declared.Turn.the-variants.{Before, Shapes, Fills, Done}
 use Rattle.jobfile.specs.declared.State.{State}
@@ -24,14 +23,6 @@ use Rattle.jobfile.specs.Limits.{mostShapes, mostTiles}
 use Rattle.jobfile.specs.Forms.{formOf, headInRange, rectInRange, tileSide, tilesAcross, agrees}
 use Rattle.jobfile.specs.Faults.{Standing, nothing, noHead, fitsLayout, lineFault, standsAfter}
 use Rattle.jobfile.specs.File.{Outcome, refused, accepted}
-
--- where a form comes in a file; 0 for a line that is none of the spellings
-abbrev pub rankOf : Form → ℕ
-rankOf Unknown = 0
-rankOf (Heading h) = 1
-rankOf (Shape r) = 2
-rankOf (Fill i j p) = 3
-rankOf End = 4
 
 -- the number of tiles of a layout
 abbrev pub tileCount : Head → ℕ

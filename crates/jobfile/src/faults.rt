@@ -22,8 +22,8 @@ ghost use lib.ListN.{length, take};
 ghost use Rattle.geometry.specs.Layout.{rectsOf, Drawn};
 ghost use Rattle.fill.specs.Eligible.{tile, fillableArea};
 ghost use Rattle.jobfile.specs.Forms.{tileSide, tilesAcross, agrees};
-ghost use Rattle.jobfile.specs.Faults.{inTurn, known, unless, fitsLayout, shapeFault, fillFault, ownFault, lineFault};
-ghost use Rattle.jobfile.specs.Held.{rankOf, standing, GoodHead, Held};
+ghost use Rattle.jobfile.specs.Faults.{rankOf, known, inTurn, unless, fitsLayout, shapeFault, fillFault, ownFault, lineFault};
+ghost use Rattle.jobfile.specs.Held.{standing, GoodHead, Held};
 
 // Where a form comes in a file: the head, rectangles, fills, the end; 0 for a
 // line that is none of the spellings.

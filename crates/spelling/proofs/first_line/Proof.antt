@@ -1,5 +1,5 @@
 -- The invariant: with the first line's length from i on, i is the first line's length.
-use Prim.Native.Nat.{ℕ, _+_, _≤_, _-_}
+use Prim.Native.Nat.{_+_, _≤_, _-_}
 use mathlib.Core.Path.{_≡_}
 use native.Mathlib.Nat.{zero-add}
 use borrow.Author.Needs.{needs}
