@@ -13,7 +13,8 @@ use borrow.Author.Tests.{le-leb, lt-leb, eq-eqb, ne-eqb}
 use Rattle.geometry.specs.declared.Rect.{Rect}
 use Rattle.geometry.specs.declared.Sense.{Sense}
 use Rattle.geometry.specs.declared.Sense.the-variants.{Greatest, Least}
-use Rattle.geometry.specs.Layout.{rectsOf, rectAt}
+use Rattle.geometry.specs.Layout.{rectsOf}
+use Rattle.geometry.specs.Overlaps.{rectAt}
 use Rattle.buffers.specs.Written.{Front}
 use Rattle.buffers.proofs.Fronts.{front-same, front-take, front-chain}
 use Rattle.geometry.proofs.Tables.{rects-next, rects-end}

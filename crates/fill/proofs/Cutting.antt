@@ -10,7 +10,8 @@ use lib.Dec.{leb}
 use lib.ListN.{length, drop}
 use borrow.Author.Tests.{leb-true, leb-false}
 use Rattle.geometry.specs.declared.Rect.{Rect}
-use Rattle.geometry.specs.Layout.{rectsOf, rectAt}
+use Rattle.geometry.specs.Layout.{rectsOf}
+use Rattle.geometry.specs.Overlaps.{rectAt}
 use Rattle.geometry.proofs.Tables.{rects-next, rects-end}
 use Rattle.fill.specs.Free.{grown, grownAll, freeArea, freeFrom, isEmpty, meeting, below, leftOf, rightOf, above, aroundFrom, Within}
 use Rattle.fill.specs.Limits.{Small}

@@ -20,8 +20,8 @@ use Rattle.fill.specs.declared.Failing.the-variants.{Nowhere, At}
 use Rattle.fill.specs.declared.Verdict.{Verdict}
 use Rattle.fill.specs.declared.Verdict.the-variants.{Broken}
 use Rattle.fill.specs.Eligible.{tile, fillableArea}
-use Rattle.fill.specs.Judge.{load, standardTiles, bloatedTiles, shrunkTiles, failingAt, standardFailing, marginFailing, judged, verdictOf}
-use Rattle.fill.specs.Windows.{cellOf, overTiles, underTiles, failingWithin, failingBy, searchBy, Loads, Filled}
+use Rattle.fill.specs.Judge.{numberAt, load, standardTiles, bloatedTiles, shrunkTiles, failingAt, standardFailing, marginFailing, judged, verdictOf}
+use Rattle.fill.specs.Windows.{overTiles, underTiles, failingWithin, failingBy, searchBy, Loads, Filled}
 use Rattle.fill.specs.Limits.{Tiled}
 use Rattle.fill.proofs.Starts.{below-or-last, rows-cong}
 use Rattle.fill.proofs.Cutting.{same-box}
@@ -101,7 +101,7 @@ load-fits rs amounts n d t v b s h e k =
 
 module _ (rs : List Rect) (amounts : List ℕ) (n d : ℕ) (l m : List ℕ)
     (s : Filled (λ t. load rs amounts n d (t % n) (t / n)) l m (n * n)) where
-  cell-load : (i j : ℕ) → i < n → j < n → cellOf m n i j ≡ load rs amounts n d i j
+  cell-load : (i j : ℕ) → i < n → j < n → numberAt m n i j ≡ load rs amounts n d i j
   cell-load i j h k =
       s .set (j * n + i) (digits-lt {q = j} {m = n} {r = i} {c = n} k h)
       ∙ ap₂ (load rs amounts n d) (digits-mod j {m = n} {r = i} h) (digits-div j {m = n} {r = i} h)
@@ -114,22 +114,22 @@ module _ (rs : List Rect) (amounts : List ℕ) (n d : ℕ) (l m : List ℕ)
         light =
             omega (
               arith,
-              box-le (record { x1 = 0; y1 = 0; x2 = n; y2 = n }) (cellOf m n) (λ x y. 2 * (d * d)) (λ x y i. small x y i),
+              box-le (record { x1 = 0; y1 = 0; x2 = n; y2 = n }) (numberAt m n) (λ x y. 2 * (d * d)) (λ x y i. small x y i),
               box-const (record { x1 = 0; y1 = 0; x2 = n; y2 = n }) (2 * (d * d)) ∙ ap (λ (v : ℕ). v * (v * (2 * (d * d)))) (sub-zero n),
               mul-le-mul (t .side) (t .side),
             );
       }
     where
-      small : (x y : ℕ) → Inside (record { x1 = 0; y1 = 0; x2 = n; y2 = n }) x y → cellOf m n x y ≤ 2 * (d * d)
+      small : (x y : ℕ) → Inside (record { x1 = 0; y1 = 0; x2 = n; y2 = n }) x y → numberAt m n x y ≤ 2 * (d * d)
       small x y i = omega (arith, cell-load x y (i .right) (i .high), tile-small rs d x y, t .room (y * n + x))
 
   -- ---- the search over the table, and the verdict's definition
 
-  box-load : (b : Rect) → b .x2 ≤ n → b .y2 ≤ n → boxSum b (cellOf m n) ≡ boxSum b (load rs amounts n d)
-  box-load b h k = box-cong b (cellOf m n) (load rs amounts n d) (λ x y i. cell-load x y (omega arith) (omega arith))
+  box-load : (b : Rect) → b .x2 ≤ n → b .y2 ≤ n → boxSum b (numberAt m n) ≡ boxSum b (load rs amounts n d)
+  box-load b h k = box-cong b (numberAt m n) (load rs amounts n d) (λ x y i. cell-load x y (omega arith) (omega arith))
 
   start-same : (r low high margin i j : ℕ) (a b : Rect) → overTiles n r margin i j ≡ a → underTiles r margin i j ≡ b → i + r ≤ n → j + r ≤ n →
-      failingBy (cellOf m n) n r low high margin i j ≡ failingWithin low high i j (boxSum a (load rs amounts n d)) (boxSum b (load rs amounts n d))
+      failingBy (numberAt m n) n r low high margin i j ≡ failingWithin low high i j (boxSum a (load rs amounts n d)) (boxSum b (load rs amounts n d))
   start-same r low high margin i j a b e f h k =
       ap₂ (failingWithin low high i j)
       (box-load (overTiles n r margin i j) (omega arith) (omega arith) ∙ ap (λ (q : Rect). boxSum q (load rs amounts n d)) e)
@@ -142,16 +142,16 @@ module _ (rs : List Rect) (amounts : List ℕ) (n d : ℕ) (l m : List ℕ)
   more i r = ap (λ (k : ℕ). min k n) (add-one (i + r))
 
   pub table-verdict : (r l u w : ℕ) → r ≤ n →
-      judged (searchBy (cellOf m n) n r (l * w * w) (u * w * w) 0) (searchBy (cellOf m n) n r (l * w * w) (u * w * w) 1) ≡ verdictOf rs amounts n r d l u w
+      judged (searchBy (numberAt m n) n r (l * w * w) (u * w * w) 0) (searchBy (numberAt m n) n r (l * w * w) (u * w * w) 1) ≡ verdictOf rs amounts n r d l u w
   unfolding standardFailing marginFailing
   table-verdict r l u w h =
       ap₂ judged
-      (rows-cong (failingBy (cellOf m n) n r (l * w * w) (u * w * w) 0)
+      (rows-cong (failingBy (numberAt m n) n r (l * w * w) (u * w * w) 0)
       (λ i j. let s = boxSum (standardTiles r i j) (load rs amounts n d) in failingAt l u w i j s s) (suc (n - r)) (suc (n - r))
       (λ i j p q.
       start-same r (l * w * w) (u * w * w) 0 i j (standardTiles r i j) (standardTiles r i j)
       (same-box refl refl (whole i r (omega arith)) (whole j r (omega arith))) (same-box (add-zero i) (add-zero j) refl refl) (omega arith) (omega arith)))
-      (rows-cong (failingBy (cellOf m n) n r (l * w * w) (u * w * w) 1)
+      (rows-cong (failingBy (numberAt m n) n r (l * w * w) (u * w * w) 1)
       (λ i j. failingAt l u w i j (boxSum (bloatedTiles n r i j) (load rs amounts n d)) (boxSum (shrunkTiles r i j) (load rs amounts n d)))
       (suc (n - r)) (suc (n - r))
       (λ i j p q.

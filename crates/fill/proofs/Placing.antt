@@ -13,7 +13,7 @@ use Rattle.geometry.specs.declared.Rect.{Rect}
 use Rattle.geometry.specs.Count.{sum, boxSum, one-if}
 use Rattle.geometry.proofs.Counting.{le-or-lt, sum-cong}
 use Rattle.fill.specs.Eligible.{eligible, tile, fillableArea}
-use Rattle.fill.specs.Judge.{amountAt}
+use Rattle.fill.specs.Judge.{numberAt}
 use Rattle.fill.specs.Placement.{Placement, chosenArea}
 
 -- of the numbers that e names, those before which fewer than p have been counted, c of them earlier
@@ -52,17 +52,17 @@ tile-sum d i j f = ap₂ (λ (a b : ℕ). sum a (λ k. sum b (λ m. f (i * d + m
 -- the first squares of each tile, row by row, as many as its amount
 abbrev firsts : (ℕ → ℕ → Bool) → List ℕ → (n d : ℕ) → ℕ → ℕ → Bool
 firsts e amounts n d x y =
-    e x y && ltb (rank d (λ m k. e (x / d * d + m) (y / d * d + k)) (x % d) (y % d)) (amountAt amounts n (x / d) (y / d))
+    e x y && ltb (rank d (λ m k. e (x / d * d + m) (y / d * d + k)) (x % d) (y % d)) (numberAt amounts n (x / d) (y / d))
 
 both : (a b : Bool) → T (a && b) → T a × T b
 both true true h = (tt, tt)
 
 module _ (g : ℕ) (rs : List Rect) (amounts : List ℕ) (n d : ℕ)
-    (fit : (i j : ℕ) → i < n → j < n → amountAt amounts n i j ≤ fillableArea g rs (tile d i j)) where
+    (fit : (i j : ℕ) → i < n → j < n → numberAt amounts n i j ≤ fillableArea g rs (tile d i j)) where
   chosen : ℕ → ℕ → Bool
   chosen = firsts (eligible g rs) amounts n d
 
-  exactly : (i j : ℕ) → i < n → j < n → chosenArea chosen (tile d i j) ≡ amountAt amounts n i j
+  exactly : (i j : ℕ) → i < n → j < n → chosenArea chosen (tile d i j) ≡ numberAt amounts n i j
   unfolding chosen
   exactly i j hi hj =
       tile-sum d i j (λ x y. one-if (chosen x y))
@@ -76,7 +76,7 @@ module _ (g : ℕ) (rs : List Rect) (amounts : List ℕ) (n d : ℕ)
       e m k = eligible g rs (i * d + m) (j * d + k)
 
       p : ℕ
-      p = amountAt amounts n i j
+      p = numberAt amounts n i j
 
       local : (m k : ℕ) → m < d → k < d → one-if (chosen (i * d + m) (j * d + k)) ≡ one-if (e m k && ltb (rank d e m k) p)
       local m k hm hk = simp (digits-div i hm, digits-div j hk, digits-mod i hm, digits-mod j hk)

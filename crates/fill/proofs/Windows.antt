@@ -14,7 +14,8 @@ use Rattle.geometry.proofs.Counting.{span-split, span-one, span-empty, box-with
 use Rattle.fill.specs.declared.Bound.the-variants.{Over, Under}
 use Rattle.fill.specs.declared.Failing.{Failing}
 use Rattle.fill.specs.declared.Failing.the-variants.{Nowhere, At}
-use Rattle.fill.specs.Windows.{cellOf, overTiles, underTiles, failingWithin, failingBy, isFound, Loads}
+use Rattle.fill.specs.Windows.{overTiles, underTiles, failingWithin, failingBy, isFound, Loads}
+use Rattle.fill.specs.Judge.{numberAt}
 use Rattle.fill.proofs.Starts.{firstOf, none-more, found-more}
 
 -- ---- a sum over a span, part of it formed: `total` is what the numbers before i add
@@ -34,16 +35,16 @@ span-room f a b total i v m e h k l = omega (arith, span-next f a b total i v e 
 pub cell-within : (n i j m : ℕ) → i < n → j < n → n * n ≤ m → j * n + i < m
 cell-within n i j m h k l = omega (arith, digits-lt {q = j} {m = n} {r = i} {c = n} k h)
 
-pub box-light : (table : List ℕ) (n : ℕ) (b : Rect) → Loads table n → b .x2 ≤ n → b .y2 ≤ n → boxSum b (cellOf table n) ≤ 1125899906842624
+pub box-light : (table : List ℕ) (n : ℕ) (b : Rect) → Loads table n → b .x2 ≤ n → b .y2 ≤ n → boxSum b (numberAt table n) ≤ 1125899906842624
 box-light table n b s h k =
-    le-trans (box-within b (record { x1 = 0; y1 = 0; x2 = n; y2 = n }) (cellOf table n) (omega arith) (omega arith) h k) (s .light)
+    le-trans (box-within b (record { x1 = 0; y1 = 0; x2 = n; y2 = n }) (numberAt table n) (omega arith) (omega arith) h k) (s .light)
 
-pub row-light : (table : List ℕ) (n j x1 x2 : ℕ) → Loads table n → x2 ≤ n → j < n → span x1 x2 (λ i. cellOf table n i j) ≤ 1125899906842624
+pub row-light : (table : List ℕ) (n j x1 x2 : ℕ) → Loads table n → x2 ≤ n → j < n → span x1 x2 (λ i. numberAt table n i j) ≤ 1125899906842624
 row-light table n j x1 x2 s h k =
     omega (
       arith,
       box-light table n (record { x1 = x1; y1 = j; x2 = x2; y2 = suc j }) s h k,
-      span-one j (λ y. span x1 x2 (λ i. cellOf table n i y)),
+      span-one j (λ y. span x1 x2 (λ i. numberAt table n i y)),
     )
 
 -- ---- the search
@@ -98,7 +99,7 @@ over-inside n r margin i j b e = (omega (arith, ap (λ (q : Rect). q .x2) e), om
 pub under-inside : (n r margin i j : ℕ) (b : Rect) → b ≡ underTiles r margin i j → i + r ≤ n → j + r ≤ n → (b .x2 ≤ n) × (b .y2 ≤ n)
 under-inside n r margin i j b e h k = (omega (arith, ap (λ (q : Rect). q .x2) e), omega (arith, ap (λ (q : Rect). q .y2) e))
 
-pub load-light : (table : List ℕ) (n : ℕ) (b : Rect) (v : ℕ) → Loads table n → v ≡ boxSum b (cellOf table n) → (b .x2 ≤ n) × (b .y2 ≤ n) → v ≤ 1125899906842624
+pub load-light : (table : List ℕ) (n : ℕ) (b : Rect) (v : ℕ) → Loads table n → v ≡ boxSum b (numberAt table n) → (b .x2 ≤ n) × (b .y2 ≤ n) → v ≤ 1125899906842624
 load-light table n b v s e h = omega (arith, box-light table n b s (h .0) (h .1))
 
 pub start-judged : (load : ℕ → ℕ → ℕ) (n r low high margin i j over under : ℕ) (a b : Rect) (v : Failing) → a ≡ overTiles n r margin i j →

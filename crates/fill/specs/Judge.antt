@@ -15,13 +15,17 @@ use Rattle.fill.specs.declared.Verdict.{Verdict}
 use Rattle.fill.specs.declared.Verdict.the-variants.{Safe, Broken, Undecided}
 use Rattle.fill.specs.Eligible.{tile}
 
--- the stated amount of tile (i, j), from a table of amounts row by row, 0 where none is given
-abbrev pub amountAt : List ℕ → (n i j : ℕ) → ℕ
-amountAt amounts n i j = getD amounts (j * n + i) 0
+-- where tile (i, j) stands in a table with one number for each tile, row by row, n to a row
+abbrev pub tileIndex : (n i j : ℕ) → ℕ
+tileIndex n i j = j * n + i
+
+-- the number of tile (i, j) in such a table: its stated amount, 0 where none is given, or its load
+abbrev pub numberAt : List ℕ → (n i j : ℕ) → ℕ
+numberAt table n i j = getD table (tileIndex n i j) 0
 
 -- a tile's load: its covered area plus its amount; d is the tile side
 abbrev pub load : List Rect → List ℕ → (n d i j : ℕ) → ℕ
-load rs amounts n d i j = coveredArea rs (tile d i j) + amountAt amounts n i j
+load rs amounts n d i j = coveredArea rs (tile d i j) + numberAt amounts n i j
 
 -- the tiles of the standard window at start (i, j), of the bloated one, cut off at the edge, and of the shrunk one
 abbrev pub standardTiles : (r i j : ℕ) → Rect

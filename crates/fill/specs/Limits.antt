@@ -1,4 +1,5 @@
--- What 64 bits ask of a caller: no side past 2^20, and no amount above its tile's area. Every accepted job has that.
+-- What 64 bits ask of a caller: no side past 2^20, and no amount above its tile's area. A buyer need not read it: no contract of the unit's
+-- public functions names it, and every accepted job has it.
 use Prim.Native.Nat.{ℕ, _*_, _≤_}
 use mathlib.Core.Path.{_≡_}
 use mathlib.Core.List.{List}

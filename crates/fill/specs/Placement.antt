@@ -10,7 +10,7 @@ use Rattle.geometry.specs.Layout.{coveredArea, window}
 use Rattle.fill.specs.Eligible.{eligible, tile}
 use Rattle.fill.specs.declared.Bound.{Bound}
 use Rattle.fill.specs.declared.Bound.the-variants.{Over, Under}
-use Rattle.fill.specs.Judge.{amountAt, keepsUpper, keepsLower}
+use Rattle.fill.specs.Judge.{numberAt, keepsUpper, keepsLower}
 
 -- the number of chosen unit squares in a box
 abbrev pub chosenArea : (ℕ → ℕ → Bool) → Rect → ℕ
@@ -20,7 +20,7 @@ chosenArea chosen b = boxSum b (λ x y. one-if (chosen x y))
 -- g is the gap, the layout has n tiles of side d a side
 pub record Placement (g : ℕ) (rs : List Rect) (amounts : List ℕ) (n d : ℕ) (chosen : ℕ → ℕ → Bool) : Type 0 where
   pub allowed : (x y : ℕ) → T (chosen x y) → T (eligible g rs x y)
-  pub exact : (i j : ℕ) → i < n → j < n → chosenArea chosen (tile d i j) ≡ amountAt amounts n i j
+  pub exact : (i j : ℕ) → i < n → j < n → chosenArea chosen (tile d i j) ≡ numberAt amounts n i j
 
 -- the sum S of the window position (x, y): its area plus the number of chosen squares in its w by w box
 abbrev pub placedSum : List Rect → (ℕ → ℕ → Bool) → (w x y : ℕ) → ℕ

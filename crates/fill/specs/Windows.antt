@@ -11,11 +11,7 @@ use Rattle.geometry.specs.Count.{boxSum}
 use Rattle.fill.specs.declared.Bound.the-variants.{Over, Under}
 use Rattle.fill.specs.declared.Failing.{Failing}
 use Rattle.fill.specs.declared.Failing.the-variants.{Nowhere, At}
-use Rattle.fill.specs.Judge.{failingInRows}
-
--- the number at column i and row j of a table of n numbers a row
-abbrev pub cellOf : List ℕ → (n i j : ℕ) → ℕ
-cellOf table n i j = getD table (j * n + i) 0
+use Rattle.fill.specs.Judge.{numberAt, failingInRows}
 
 -- the tiles whose load is held to the upper bound, and to the lower
 abbrev pub overTiles : (n r margin i j : ℕ) → Rect
@@ -44,7 +40,7 @@ isFound (At b i j) = true
 pub record Loads (table : List ℕ) (n : ℕ) : Type 0 where
   pub few : n ≤ 64
   pub full : n * n ≤ length table
-  pub light : boxSum (record { x1 = 0; y1 = 0; x2 = n; y2 = n }) (cellOf table n) ≤ 1125899906842624
+  pub light : boxSum (record { x1 = 0; y1 = 0; x2 = n; y2 = n }) (numberAt table n) ≤ 1125899906842624
 
 -- the numbers before place n of a table are those of f, and the others are as they were
 pub record Filled (f : ℕ → ℕ) (before table : List ℕ) (n : ℕ) : Type 0 where

@@ -6,7 +6,7 @@ use geometry::smaller;
 ghost use Prim.Native.Nat.{ℕ, _+_, _-_, _*_, _≤_, _<_};
 ghost use mathlib.Core.Path.{_≡_};
 ghost use lib.ListN.{length, getD};
-ghost use Rattle.geometry.specs.Layout.{rectAt};
+ghost use Rattle.geometry.specs.Overlaps.{rectAt};
 ghost use Rattle.fill.specs.Free.{grown, freeFrom, aroundFrom, isEmpty, meeting, Within};
 ghost use Rattle.fill.specs.Limits.{Small};
 
@@ -98,30 +98,10 @@ fn free_around(rects: &[u64], gap: u64, at: usize, b: Rect, m: Rect) -> u64
     requires { ⌜ Within m b ⌝ }
     ensures { λ r. ⌜ r ≡ aroundFrom gap (now (rects .entry)) at b m ⌝ }
 {
-    let below = Rect {
-        x1: b.x1,
-        y1: b.y1,
-        x2: b.x2,
-        y2: m.y1,
-    };
-    let left = Rect {
-        x1: b.x1,
-        y1: m.y1,
-        x2: m.x1,
-        y2: m.y2,
-    };
-    let right = Rect {
-        x1: m.x2,
-        y1: m.y1,
-        x2: b.x2,
-        y2: m.y2,
-    };
-    let above = Rect {
-        x1: b.x1,
-        y1: m.y2,
-        x2: b.x2,
-        y2: b.y2,
-    };
+    let below = Rect { y2: m.y1, ..b };
+    let left = Rect { x1: b.x1, x2: m.x1, ..m };
+    let right = Rect { x1: m.x2, x2: b.x2, ..m };
+    let above = Rect { y1: m.y2, ..b };
     let p = free_from(rects, gap, at, below);
     let q = free_from(rects, gap, at, left);
     let r = free_from(rects, gap, at, right);

@@ -8,8 +8,8 @@ ghost use Prim.Native.Nat.{suc, _+_, _-_, _*_, _≤_, _<_};
 ghost use mathlib.Core.Path.{_≡_};
 ghost use Rattle.geometry.specs.Count.{span, boxSum};
 ghost use Rattle.fill.specs.declared.Failing.the-variants.{Nowhere};
-ghost use Rattle.fill.specs.Judge.{failingInRow, judged};
-ghost use Rattle.fill.specs.Windows.{cellOf, overTiles, underTiles, failingWithin, failingBy, searchBy, isFound, Loads};
+ghost use Rattle.fill.specs.Judge.{numberAt, failingInRow, judged};
+ghost use Rattle.fill.specs.Windows.{overTiles, underTiles, failingWithin, failingBy, searchBy, isFound, Loads};
 
 // What windows are judged by: n tiles a side, r across a window, and 10,000 times
 // the least and the greatest load of a window.
@@ -23,7 +23,7 @@ pub struct Rule {
 fn cell(loads: &[u64], n: u64, i: u64, j: u64) -> u64
     requires { ⌜ (i < n) × (j < n) ⌝ }
     requires { ⌜ Loads (now loads) n ⌝ }
-    ensures { λ r. ⌜ r ≡ cellOf (now (loads .entry)) n i j ⌝ }
+    ensures { λ r. ⌜ r ≡ numberAt (now (loads .entry)) n i j ⌝ }
 {
     let at = j * n + i;
     loads[at as usize]
@@ -33,7 +33,7 @@ fn cell(loads: &[u64], n: u64, i: u64, j: u64) -> u64
 fn row_load(loads: &[u64], n: u64, j: u64, x1: u64, x2: u64) -> u64
     requires { ⌜ (x2 ≤ n) × (j < n) ⌝ }
     requires { ⌜ Loads (now loads) n ⌝ }
-    ensures { λ r. ⌜ r ≡ span x1 x2 (λ i. cellOf (now (loads .entry)) n i j) ⌝ }
+    ensures { λ r. ⌜ r ≡ span x1 x2 (λ i. numberAt (now (loads .entry)) n i j) ⌝ }
 {
     let mut total: u64 = 0;
     let mut i = x1;
@@ -48,7 +48,7 @@ fn row_load(loads: &[u64], n: u64, j: u64, x1: u64, x2: u64) -> u64
 fn tiles_load(loads: &[u64], n: u64, b: Rect) -> u64
     requires { ⌜ (b .x2 ≤ n) × (b .y2 ≤ n) ⌝ }
     requires { ⌜ Loads (now loads) n ⌝ }
-    ensures { λ r. ⌜ r ≡ boxSum b (cellOf (now (loads .entry)) n) ⌝ }
+    ensures { λ r. ⌜ r ≡ boxSum b (numberAt (now (loads .entry)) n) ⌝ }
 {
     let mut total: u64 = 0;
     let mut j = b.y1;
@@ -104,7 +104,7 @@ fn failing_at(loads: &[u64], rule: Rule, margin: u64, i: u64, j: u64) -> Failing
     requires { ⌜ Loads (now loads) (rule .n) ⌝ }
     requires { ⌜ (i + rule .r ≤ rule .n) × (j + rule .r ≤ rule .n) ⌝ }
     requires { ⌜ margin ≤ 1 ⌝ }
-    ensures { λ f. ⌜ f ≡ failingBy (cellOf (now (loads .entry)) (rule .n)) (rule .n) (rule .r) (rule .low) (rule .high) margin i j ⌝ }
+    ensures { λ f. ⌜ f ≡ failingBy (numberAt (now (loads .entry)) (rule .n)) (rule .n) (rule .r) (rule .low) (rule .high) margin i j ⌝ }
 {
     let over = tiles_load(loads, rule.n, over_tiles(rule, margin, i, j));
     let under = tiles_load(loads, rule.n, under_tiles(rule, margin, i, j));
@@ -125,7 +125,7 @@ fn failing_in_row(loads: &[u64], rule: Rule, margin: u64, j: u64) -> Failing
     requires { ⌜ Loads (now loads) (rule .n) ⌝ }
     requires { ⌜ (rule .r ≤ rule .n) × (j + rule .r ≤ rule .n) ⌝ }
     requires { ⌜ margin ≤ 1 ⌝ }
-    ensures { λ f. ⌜ f ≡ failingInRow (failingBy (cellOf (now (loads .entry)) (rule .n)) (rule .n) (rule .r) (rule .low) (rule .high) margin) j (suc (rule .n - rule .r)) ⌝ }
+    ensures { λ f. ⌜ f ≡ failingInRow (failingBy (numberAt (now (loads .entry)) (rule .n)) (rule .n) (rule .r) (rule .low) (rule .high) margin) j (suc (rule .n - rule .r)) ⌝ }
 {
     let last = rule.n - rule.r;
     let mut i: u64 = 0;
@@ -144,7 +144,7 @@ fn first_failing(loads: &[u64], rule: Rule, margin: u64) -> Failing
     requires { ⌜ Loads (now loads) (rule .n) ⌝ }
     requires { ⌜ rule .r ≤ rule .n ⌝ }
     requires { ⌜ margin ≤ 1 ⌝ }
-    ensures { λ f. ⌜ f ≡ searchBy (cellOf (now (loads .entry)) (rule .n)) (rule .n) (rule .r) (rule .low) (rule .high) margin ⌝ }
+    ensures { λ f. ⌜ f ≡ searchBy (numberAt (now (loads .entry)) (rule .n)) (rule .n) (rule .r) (rule .low) (rule .high) margin ⌝ }
 {
     let last = rule.n - rule.r;
     let mut j: u64 = 0;
@@ -172,7 +172,7 @@ fn unbroken(margin: Failing) -> Verdict
 pub fn judge_loads(loads: &[u64], rule: Rule) -> Verdict
     requires { ⌜ Loads (now loads) (rule .n) ⌝ }
     requires { ⌜ rule .r ≤ rule .n ⌝ }
-    ensures { λ v. ⌜ v ≡ judged (searchBy (cellOf (now (loads .entry)) (rule .n)) (rule .n) (rule .r) (rule .low) (rule .high) 0) (searchBy (cellOf (now (loads .entry)) (rule .n)) (rule .n) (rule .r) (rule .low) (rule .high) 1) ⌝ }
+    ensures { λ v. ⌜ v ≡ judged (searchBy (numberAt (now (loads .entry)) (rule .n)) (rule .n) (rule .r) (rule .low) (rule .high) 0) (searchBy (numberAt (now (loads .entry)) (rule .n)) (rule .n) (rule .r) (rule .low) (rule .high) 1) ⌝ }
 {
     let standard = first_failing(loads, rule, 0);
     match standard {

@@ -12,7 +12,8 @@ use lib.Seq.{drop-cons}
 use borrow.Author.Tests.{le-ltb}
 use Rattle.geometry.specs.declared.Rect.{Rect}
 use Rattle.geometry.specs.Count.{one-if}
-use Rattle.geometry.specs.Layout.{holds, covered, coveredArea, sharesSquare, Disjoint, rectsOf, rectAt, Drawn}
+use Rattle.geometry.specs.Layout.{holds, covered, coveredArea, sharesSquare, Disjoint, rectsOf, Drawn}
+use Rattle.geometry.specs.Overlaps.{rectAt}
 use Rattle.geometry.proofs.Counting.{box-cong}
 use Rattle.geometry.proofs.Sharing.{shares-none}
 

@@ -6,8 +6,8 @@ use native.Mathlib.Nat.{zero-add, mul-le-mul}
 use native.Mathlib.Omega.{arith}
 use lib.ListN.{length, getD, drop, length-drop}
 use Rattle.geometry.specs.declared.Rect.{Rect}
-use Rattle.geometry.specs.Layout.{coveredArea, rectsOf, rectAt, Drawn}
-use Rattle.geometry.specs.Overlaps.{common, overlap, overlapSum, stripSum, StripSmall}
+use Rattle.geometry.specs.Layout.{coveredArea, rectsOf, Drawn}
+use Rattle.geometry.specs.Overlaps.{rectAt, common, overlap, overlapSum, stripSum, StripSmall}
 use Rattle.geometry.proofs.Overlaps.{overlap-is-area}
 use Rattle.geometry.proofs.Tables.{three-at, rects-next, rects-end}
 

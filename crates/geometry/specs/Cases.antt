@@ -3,7 +3,6 @@ use Prim.Native.Nat.{ℕ}
 use Prim.Native.String.{String}
 use mathlib.Core.List.{List, [], _∷_, map}
 use Rattle.geometry.specs.declared.Rect.{Rect}
-use Rattle.geometry.specs.declared.Spot.{Spot}
 
 pub record Row : Type 0 where
   pub name : String
@@ -18,10 +17,6 @@ foundIn rows = map (λ r. r .found) rows
 
 abbrev pub statedIn : List Row → List (List ℕ)
 statedIn rows = map (λ r. r .stated) rows
-
--- a window in numbers: area, x, y
-abbrev pub spotNumbers : Spot → List ℕ → List ℕ
-spotNumbers p ns = p .area ∷ p .x ∷ p .y ∷ ns
 
 -- job A of document 01: N 8, W 4, R 2, B 1 and one rectangle
 abbrev pub shapesA : List Rect

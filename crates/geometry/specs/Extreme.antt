@@ -1,7 +1,8 @@
 -- The one way in which an extreme is taken: rows in order, in a row columns in order, replaced only by a strictly better area.
--- So the window that it names has the least y, then the least x.
+-- So the window that it names has the least y, then the least x, unless the one that stood before is as good.
 use Prim.Native.Nat.{ℕ, zero, suc, _*_}
 use mathlib.Core.Bool.{Bool, true, false}
+use mathlib.Core.List.{List, _∷_}
 use lib.Dec.{ltb}
 use Rattle.geometry.specs.declared.Spot.{Spot}
 use Rattle.geometry.specs.declared.Sense.{Sense}
@@ -29,3 +30,7 @@ bestInRow s f t y (suc n) b = replaced s (bestInRow s f t y n b) (spotAt f (n * 
 unfoldable pub bestInRows : Sense → (ℕ → ℕ → ℕ) → (t n m : ℕ) → Spot → Spot
 bestInRows s f t n zero b = b
 bestInRows s f t n (suc m) b = bestInRow s f t (m * t) n (bestInRows s f t n m b)
+
+-- a window in numbers, as it is printed: area, x, y, and what follows them
+abbrev pub spotNumbers : Spot → List ℕ → List ℕ
+spotNumbers p ns = p .area ∷ p .x ∷ p .y ∷ ns

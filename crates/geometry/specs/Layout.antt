@@ -41,11 +41,8 @@ rectsOf (a ∷ b ∷ []) = []
 rectsOf (a ∷ b ∷ c ∷ []) = []
 rectsOf (a ∷ b ∷ c ∷ d ∷ s) = record { x1 = a; y1 = b; x2 = c; y2 = d } ∷ rectsOf s
 
--- the rectangle whose numbers stand from place i of a table
-abbrev pub rectAt : List ℕ → ℕ → Rect
-rectAt table i = record { x1 = getD table i 0; y1 = getD table (i + 1) 0; x2 = getD table (i + 2) 0; y2 = getD table (i + 3) 0 }
-
--- what 64 bits ask of a table of drawn rectangles: at most 1,024, no corner past 2^20, no shared unit square
+-- what the code asks of a table of drawn rectangles: at most 1,024 and no corner past 2^20, for 64 bits, and no shared unit square, so that
+-- sums of overlaps count each square once
 pub record Drawn (table : List ℕ) : Type 0 where
   pub few : length table ≤ 4096
   pub small : (i : ℕ) → getD table i 0 ≤ 1048576

@@ -1,5 +1,6 @@
--- The sums that the code forms in place of counting unit squares. A buyer need not read them: proofs/Overlaps.antt shows that for disjoint
--- rectangles each equals `coveredArea`.
+-- What the code forms in place of counting unit squares: overlaps, and strips, which list the rectangles of some rows. A buyer need not read
+-- it, since no contract of the unit's public functions names it: for disjoint rectangles `overlapSum`, and `stripSum` of a strip, equal
+-- `coveredArea` (proofs/Overlaps.antt), and narrowing a strip leaves the sums between its columns as they were (proofs/Strips.antt).
 use Prim.Native.Nat.{ℕ, _+_, _-_, _*_, _≤_, min, max}
 use mathlib.Core.Path.{_≡_}
 use mathlib.Core.Bool.{true, false}
@@ -7,6 +8,10 @@ use mathlib.Core.List.{List, [], _∷_, _++_}
 use lib.Dec.{ltb}
 use lib.ListN.{length, getD, take, drop}
 use Rattle.geometry.specs.declared.Rect.{Rect}
+
+-- the rectangle whose numbers stand from place i of a table
+abbrev pub rectAt : List ℕ → ℕ → Rect
+rectAt table i = record { x1 = getD table i 0; y1 = getD table (i + 1) 0; x2 = getD table (i + 2) 0; y2 = getD table (i + 3) 0 }
 
 -- how many numbers the spans a to b and c to d have in common
 abbrev pub common : (a b c d : ℕ) → ℕ

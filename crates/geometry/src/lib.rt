@@ -4,8 +4,8 @@ ghost use Prim.Native.Nat.{_+_, _*_, _≤_, _<_, min, max};
 ghost use mathlib.Core.Path.{_≡_};
 ghost use mathlib.Core.List.{[], _∷_};
 ghost use lib.ListN.{length, getD};
-ghost use Rattle.geometry.specs.Layout.{rectsOf, rectAt, coveredArea, sharesSquare, Drawn};
-ghost use Rattle.geometry.specs.Overlaps.{common, overlap, part, rowsPart, columnsPart, stripOf, narrowed, stripSum, StripSmall};
+ghost use Rattle.geometry.specs.Layout.{rectsOf, coveredArea, sharesSquare, Drawn};
+ghost use Rattle.geometry.specs.Overlaps.{rectAt, common, overlap, part, rowsPart, columnsPart, stripOf, narrowed, stripSum, StripSmall};
 ghost use Rattle.buffers.specs.Written.{Written, Front};
 ghost use Rattle.geometry.specs.Extreme.{better, replaced};
 

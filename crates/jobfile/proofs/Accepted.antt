@@ -17,14 +17,15 @@ use Rattle.fill.specs.Eligible.{tile, fillableArea}
 use Rattle.fill.specs.Free.{grownAll}
 use Rattle.fill.proofs.Grown.{fillable-grown, free-small}
 use Rattle.spelling.proofs.Numerals.{both}
+use Rattle.fill.specs.Judge.{numberAt}
 use Rattle.jobfile.specs.declared.Head.{Head}
 use Rattle.jobfile.specs.declared.Form.{Form}
 use Rattle.jobfile.specs.declared.Turn.the-variants.{Before}
 use Rattle.jobfile.specs.Limits.{mostShapes}
 use Rattle.jobfile.specs.Forms.{tileSide, tilesAcross}
-use Rattle.jobfile.specs.Faults.{Standing, tileIndex, fitsLayout}
-use Rattle.jobfile.specs.File.{accepted, outcomeOf, tableOf, padded}
-use Rattle.jobfile.specs.Held.{tileCount, GoodShapes, Sound}
+use Rattle.jobfile.specs.Faults.{Standing, fitsLayout}
+use Rattle.jobfile.specs.File.{accepted, outcomeOf}
+use Rattle.jobfile.specs.Held.{tileCount, GoodShapes, Sound, tableOf, padded}
 use Rattle.jobfile.proofs.Heads.{HeadFacts, head-facts, positive}
 use Rattle.jobfile.proofs.Tables.{length-table, rects-of-table, table-small}
 use Rattle.jobfile.proofs.Sound.{sound-after, sound-nothing}
@@ -49,7 +50,7 @@ pub record AcceptedFacts (st : Standing) : Type 0 where
   pub drawn : Drawn (tableOf (st .shapes))
   pub sized : length (st .amounts) ≡ tileCount (st .head)
   pub fillable : (i j : ℕ) → i < tilesAcross (st .head) → j < tilesAcross (st .head) →
-      getD (st .amounts) (tileIndex (st .head) i j) 0 ≤ fillableArea (st .head .gap) (st .shapes) (tile (tileSide (st .head)) i j)
+      numberAt (st .amounts) (tilesAcross (st .head)) i j ≤ fillableArea (st .head .gap) (st .shapes) (tile (tileSide (st .head)) i j)
 
 in-layout : (h : Head) (r : Rect) → fitsLayout h r ≡ true → InLayout h r
 in-layout h r e =

@@ -13,26 +13,27 @@ use lib.Seq.{take-set-lt, drop-set-lt, length-take-le}
 use Rattle.geometry.specs.declared.Rect.{Rect}
 use Rattle.geometry.specs.Layout.{rectsOf}
 use Rattle.geometry.proofs.Tables.{rects-length}
+use Rattle.fill.specs.Judge.{tileIndex}
 use Rattle.jobfile.specs.declared.Head.{Head}
 use Rattle.jobfile.specs.declared.State.{State}
 use Rattle.jobfile.specs.declared.Form.{Form}
-use Rattle.jobfile.specs.declared.Form.the-variants.{Unknown, Start, Shape, Fill, End}
+use Rattle.jobfile.specs.declared.Form.the-variants.{Unknown, Heading, Shape, Fill, End}
 use Rattle.jobfile.specs.declared.Turn.{Turn}
 use Rattle.jobfile.specs.declared.Turn.the-variants.{Before, Shapes, Fills, Done}
 use Rattle.jobfile.specs.Limits.{mostTiles}
 use Rattle.jobfile.specs.Forms.{tilesAcross, agrees}
-use Rattle.jobfile.specs.Faults.{Standing, nothing, noHead, inTurn, tileIndex, lineFault, standsAfter}
+use Rattle.jobfile.specs.Faults.{Standing, nothing, noHead, inTurn, lineFault, standsAfter}
 use Rattle.jobfile.specs.Held.{tileCount, standing, GoodHead, Sound, Held, withShape, Entered}
 use Rattle.jobfile.proofs.Tests.{unless-none}
 use Rattle.jobfile.proofs.Heads.{agreement}
 use Rattle.jobfile.proofs.Tables.{stored-rects, stored-behind, stored-length, zeros, take-zeros, drop-zeros, zeros-later}
 use Rattle.jobfile.proofs.Sound.{NoFault, no-fault, no-shape-fault, NoFillFault, no-fill-fault, after-head, sound-after}
 
-start-turn : (t : Turn) (h : Head) → inTurn t (Start h) ≡ true → t ≡ Before
-start-turn Before h e = refl
-start-turn Shapes h e = absurd (false≢true e)
-start-turn Fills h e = absurd (false≢true e)
-start-turn Done h e = absurd (false≢true e)
+heading-turn : (t : Turn) (h : Head) → inTurn t (Heading h) ≡ true → t ≡ Before
+heading-turn Before h e = refl
+heading-turn Shapes h e = absurd (false≢true e)
+heading-turn Fills h e = absurd (false≢true e)
+heading-turn Done h e = absurd (false≢true e)
 
 -- a good head has at most 64 tiles across, so at most 4,096
 pub few-across : (h : Head) → agrees h ≡ true → tilesAcross h ≤ mostTiles
@@ -76,11 +77,11 @@ entered s rects amounts f s′ rects′ amounts′ k e same held =
     record { stands = same; held = held (rw same (sound-after (standing s rects amounts) f (k .sound) e)) }
 
 module _ (s : State) (rects amounts : List ℕ) (k : Held s rects amounts) where
-  on-start : (h : Head) → lineFault (standing s rects amounts) (Start h) ≡ 0 →
-      Entered s rects amounts (Start h) (record { turn = Shapes; head = h; count = 0 }) rects amounts
+  on-heading : (h : Head) → lineFault (standing s rects amounts) (Heading h) ≡ 0 →
+      Entered s rects amounts (Heading h) (record { turn = Shapes; head = h; count = 0 }) rects amounts
   unfolding standsAfter rectsOf
-  on-start h e =
-      entered s rects amounts (Start h) (record { turn = Shapes; head = h; count = 0 }) rects amounts k e
+  on-heading h e =
+      entered s rects amounts (Heading h) (record { turn = Shapes; head = h; count = 0 }) rects amounts k e
       (ap (λ (l : List ℕ). record { turn = Shapes; head = h; shapes = []; amounts = l }) clean)
       (λ sound.
       record {
@@ -93,14 +94,14 @@ module _ (s : State) (rects amounts : List ℕ) (k : Held s rects amounts) where
         sound = sound;
       })
     where
-      g : NoFault (standing s rects amounts) (Start h)
-      g = no-fault (standing s rects amounts) (Start h) e
+      g : NoFault (standing s rects amounts) (Heading h)
+      g = no-fault (standing s rects amounts) (Heading h) e
 
       few : tileCount h ≤ 4096
       few = few-tiles h (unless-none (agrees h) 5 0 (lit< tt) (g .own) .0)
 
       z : Empty s rects amounts
-      z = empty-before s rects amounts k (start-turn (s .turn) h (g .turn))
+      z = empty-before s rects amounts k (heading-turn (s .turn) h (g .turn))
 
       clean : take (tileCount h) amounts ≡ zeros (tileCount h)
       clean = ap (take (tileCount h)) (z .amounts-zero) ∙ take-zeros (tileCount h) 4096 few
@@ -144,24 +145,24 @@ module _ (s : State) (rects amounts : List ℕ) (k : Held s rects amounts) where
   fill-good i j p e = no-fill-fault (standing s rects amounts) i j p (no-fault (standing s rects amounts) (Fill i j p) e .own)
 
   on-fill : (i j p : ℕ) → lineFault (standing s rects amounts) (Fill i j p) ≡ 0 →
-      Entered s rects amounts (Fill i j p) (record { turn = Fills; head = s .head; count = s .count }) rects (set amounts (tileIndex (s .head) i j) p)
+      Entered s rects amounts (Fill i j p) (record { turn = Fills; head = s .head; count = s .count }) rects (set amounts (tileIndex (tilesAcross (s .head)) i j) p)
   unfolding standsAfter
   on-fill i j p e =
-      entered s rects amounts (Fill i j p) (record { turn = Fills; head = s .head; count = s .count }) rects (set amounts (tileIndex (s .head) i j) p) k e
+      entered s rects amounts (Fill i j p) (record { turn = Fills; head = s .head; count = s .count }) rects (set amounts (tileIndex (tilesAcross (s .head)) i j) p) k e
       (ap (λ (l : List ℕ). record { turn = Fills; head = s .head; shapes = rectsOf (take (4 * s .count) rects); amounts = l })
-      (take-set-lt (tileCount (s .head)) amounts (tileIndex (s .head) i j) p place))
+      (take-set-lt (tileCount (s .head)) amounts (tileIndex (tilesAcross (s .head)) i j) p place))
       (λ sound.
       record {
         room = k .room;
-        cells = length-set amounts (tileIndex (s .head) i j) p ∙ k .cells;
+        cells = length-set amounts (tileIndex (tilesAcross (s .head)) i j) p ∙ k .cells;
         count = k .count;
         tiles = k .tiles;
         behind = k .behind;
-        beyond = drop-set-lt (tileCount (s .head)) amounts (tileIndex (s .head) i j) p place ∙ k .beyond;
+        beyond = drop-set-lt (tileCount (s .head)) amounts (tileIndex (tilesAcross (s .head)) i j) p place ∙ k .beyond;
         sound = sound;
       })
     where
-      place : tileIndex (s .head) i j < tileCount (s .head)
+      place : tileIndex (tilesAcross (s .head)) i j < tileCount (s .head)
       place = digits-lt (fill-good i j p e .row) (fill-good i j p e .column)
 
   on-end : lineFault (standing s rects amounts) End ≡ 0 →
@@ -176,9 +177,9 @@ module _ (s : State) (rects amounts : List ℕ) (k : Held s rects amounts) where
   pub enter-unknown : (f : Form) → f ≡ Unknown → lineFault (standing s rects amounts) f ≡ 0 → Entered s rects amounts f s rects amounts
   enter-unknown f q e = absurd (false≢true (no-fault (standing s rects amounts) Unknown (rw q at e) .spelled))
 
-  pub enter-start : (f : Form) (h : Head) → f ≡ Start h → lineFault (standing s rects amounts) f ≡ 0 →
+  pub enter-heading : (f : Form) (h : Head) → f ≡ Heading h → lineFault (standing s rects amounts) f ≡ 0 →
       Entered s rects amounts f (record { turn = Shapes; head = h; count = 0 }) rects amounts
-  enter-start f h q e = rw q (on-start h (rw q at e))
+  enter-heading f h q e = rw q (on-heading h (rw q at e))
 
   pub shape-space : (f : Form) (r : Rect) → f ≡ Shape r → lineFault (standing s rects amounts) f ≡ 0 → 4 * s .count + 4 ≤ length rects
   shape-space f r q e = omega (arith, shape-room r (rw q at e), k .room)
@@ -189,7 +190,7 @@ module _ (s : State) (rects amounts : List ℕ) (k : Held s rects amounts) where
   enter-shape f r rects′ q e new = rw (q, new) (on-shape r (rw q at e))
 
   pub fill-space : (f : Form) (i j p : ℕ) → f ≡ Fill i j p → lineFault (standing s rects amounts) f ≡ 0 →
-      ((tilesAcross (s .head) ≤ 64) × (i < tilesAcross (s .head)) × (j < tilesAcross (s .head))) × (tileIndex (s .head) i j < length amounts)
+      ((tilesAcross (s .head) ≤ 64) × (i < tilesAcross (s .head)) × (j < tilesAcross (s .head))) × (tileIndex (tilesAcross (s .head)) i j < length amounts)
   fill-space f i j p q e =
       ((few-across (s .head) (head .agreement), g .column, g .row), omega (arith, digits-lt (g .row) (g .column), few-tiles (s .head) (head .agreement), k .cells))
     where
@@ -203,7 +204,7 @@ module _ (s : State) (rects amounts : List ℕ) (k : Held s rects amounts) where
           (λ h n. let z : _≡_ {A = ℕ} 0 1 = cc in omega arith))
 
   pub enter-fill : (f : Form) (i j p : ℕ) (amounts′ : List ℕ) → f ≡ Fill i j p → lineFault (standing s rects amounts) f ≡ 0 →
-      amounts′ ≡ set amounts (tileIndex (s .head) i j) p →
+      amounts′ ≡ set amounts (tileIndex (tilesAcross (s .head)) i j) p →
       Entered s rects amounts f (record { turn = Fills; head = s .head; count = s .count }) rects amounts′
   enter-fill f i j p amounts′ q e new = rw (q, new) (on-fill i j p (rw q at e))
 

@@ -1,30 +1,30 @@
 -- The faults of a line, test by test, as the code finds them.
-use Prim.Native.Nat.{ℕ, _+_, _*_, _≤_, _<_}
-use mathlib.Core.Path.{_≡_, refl, sym, ap, _∙_}
+use Prim.Native.Nat.{ℕ, suc, _*_, _≤_, _<_}
+use mathlib.Core.Path.{_≡_, sym, ap, _∙_}
 use mathlib.Core.Bool.{Bool, true, false}
 use mathlib.Core.List.{List, []}
 use native.Mathlib.Nat.{le-trans, lt-of-lt-of-le}
-use native.Mathlib.Numerals.{add-one}
 use native.Mathlib.Omega.{arith}
 use lib.Arith.{digits-lt}
 use lib.Dec.{leb, ltb, eqb, lit≤}
 use lib.ListN.{length, getD, take}
 use lib.Seq.{length-take-le, getD-take}
-use borrow.Author.Tests.{lt-ltb, le-ltb, le-leb, lt-leb, eq-eqb, ne-eqb, ltb-true, ltb-false}
+use borrow.Author.Tests.{lt-ltb, le-ltb, le-leb, lt-leb, eq-eqb, ne-eqb}
 use Rattle.geometry.specs.declared.Rect.{Rect}
-use Rattle.geometry.specs.Layout.{rectsOf, coveredArea, sharesSquare, Drawn}
+use Rattle.geometry.specs.Layout.{rectsOf, sharesSquare, Drawn}
 use Rattle.fill.specs.Eligible.{tile, fillableArea}
 use Rattle.fill.specs.Limits.{Small}
+use Rattle.fill.specs.Judge.{tileIndex, numberAt}
 use Rattle.jobfile.specs.declared.Head.{Head}
 use Rattle.jobfile.specs.declared.Form.{Form}
-use Rattle.jobfile.specs.declared.Form.the-variants.{Unknown, Start, Shape, Fill, End}
+use Rattle.jobfile.specs.declared.Form.the-variants.{Unknown, Heading, Shape, Fill, End}
 use Rattle.jobfile.specs.declared.State.{State}
 use Rattle.jobfile.specs.declared.Turn.{Turn}
-use Rattle.jobfile.specs.declared.Turn.the-variants.{Before, Shapes, Fills, Done}
+use Rattle.jobfile.specs.declared.Turn.the-variants.{Before, Shapes, Fills}
 use Rattle.jobfile.specs.Limits.{mostShapes}
 use Rattle.jobfile.specs.Forms.{inRange, tileSide, tilesAcross, agrees}
-use Rattle.jobfile.specs.Faults.{Standing, inTurn, known, tileIndex, unless, fitsLayout, shapeFault, fillFault, ownFault, lineFault}
-use Rattle.jobfile.specs.Held.{rankOf, tileCount, standing, GoodHead, Held}
+use Rattle.jobfile.specs.Faults.{Standing, rankOf, known, inTurn, unless, fitsLayout, shapeFault, fillFault, ownFault, lineFault}
+use Rattle.jobfile.specs.Held.{tileCount, standing, GoodHead, Held}
 use Rattle.geometry.proofs.Tables.{rects-length}
 use Rattle.jobfile.proofs.Tables.{drawn-so-far}
 use Rattle.jobfile.proofs.Heads.{HeadFacts, head-facts, tile-end}
@@ -32,58 +32,18 @@ use Rattle.jobfile.proofs.Sound.{after-head}
 
 -- ---- the turn
 
--- the turn by where forms come in a file
-by-rank : Turn → ℕ → Bool
-by-rank Before n = eqb n 1
-by-rank Shapes n = leb 2 n
-by-rank Fills n = leb 3 n
-by-rank Done n = false
-
-turn-rank : (t : Turn) (f : Form) → by-rank t (rankOf f) ≡ inTurn t f
-unfolding by-rank
-turn-rank Before Unknown = refl
-turn-rank Before (Start h) = refl
-turn-rank Before (Shape r) = refl
-turn-rank Before (Fill i j p) = refl
-turn-rank Before End = refl
-turn-rank Shapes Unknown = refl
-turn-rank Shapes (Start h) = refl
-turn-rank Shapes (Shape r) = refl
-turn-rank Shapes (Fill i j p) = refl
-turn-rank Shapes End = refl
-turn-rank Fills Unknown = refl
-turn-rank Fills (Start h) = refl
-turn-rank Fills (Shape r) = refl
-turn-rank Fills (Fill i j p) = refl
-turn-rank Fills End = refl
-turn-rank Done f = refl
-
 module _ (t : Turn) (f : Form) (n : ℕ) (e : n ≡ rankOf f) where
-  by : (u : Turn) → t ≡ u → by-rank u n ≡ inTurn t f
-  by u q = rw (e, ← q) (turn-rank t f)
-
   pub turn-before : t ≡ Before → eqb n 1 ≡ inTurn t f
-  unfolding by-rank
-  turn-before q = by Before q
+  turn-before q = rw (e, q)
 
   pub turn-shapes : t ≡ Shapes → leb 2 n ≡ inTurn t f
-  unfolding by-rank
-  turn-shapes q = by Shapes q
+  turn-shapes q = rw (e, q)
 
   pub turn-fills : t ≡ Fills → leb 3 n ≡ inTurn t f
-  unfolding by-rank
-  turn-fills q = by Fills q
-
--- a line that is one of the spellings
-known-rank : (f : Form) → ltb 0 (rankOf f) ≡ known f
-known-rank Unknown = refl
-known-rank (Start h) = refl
-known-rank (Shape r) = refl
-known-rank (Fill i j p) = refl
-known-rank End = refl
+  turn-fills q = rw (e, q)
 
 pub known-by : (f : Form) (n : ℕ) → n ≡ rankOf f → ltb 0 n ≡ known f
-known-by f n e = rw e (known-rank f)
+known-by f n e = rw e
 
 -- ---- a head
 
@@ -132,20 +92,12 @@ module _ (s : State) (rects : List ℕ) (r : Rect) (whole : 4 * s .count ≤ len
     pub shape-shared : (u : Bool) → s .count < mostShapes → u ≡ sharesSquare (rectsOf (take (4 * s .count) rects)) r → u ≡ true →
         9 ≡ shapeFault (standing s rects []) r
     unfolding shapeFault
-    shape-shared u h p q =
-        rw (← a, b, counted, lt-ltb (s .count) mostShapes h, ne-eqb (coveredArea (rectsOf (take (4 * s .count) rects)) r) 0 (λ e. omega (arith, some)))
-      where
-        some : 0 < coveredArea (rectsOf (take (4 * s .count) rects)) r
-        some = ltb-true 0 (coveredArea (rectsOf (take (4 * s .count) rects)) r) (sym p ∙ q)
+    shape-shared u h p q = rw (← a, b, counted, lt-ltb (s .count) mostShapes h, ← p, q)
 
     pub shape-right : (u : Bool) → s .count < mostShapes → u ≡ sharesSquare (rectsOf (take (4 * s .count) rects)) r → u ≡ false →
         0 ≡ shapeFault (standing s rects []) r
     unfolding shapeFault
-    shape-right u h p q =
-        rw (← a, b, counted, lt-ltb (s .count) mostShapes h, eq-eqb (coveredArea (rectsOf (take (4 * s .count) rects)) r) 0 (omega (arith, none)))
-      where
-        none : coveredArea (rectsOf (take (4 * s .count) rects)) r ≤ 0
-        none = ltb-false 0 (coveredArea (rectsOf (take (4 * s .count) rects)) r) (sym p ∙ q)
+    shape-right u h p q = rw (← a, b, counted, lt-ltb (s .count) mostShapes h, ← p, q)
 
 -- ---- a fill
 
@@ -159,12 +111,12 @@ module _ (s : State) (rects amounts : List ℕ) (i j p t : ℕ) (e : t ≡ tiles
     unfolding fillFault
     fill-row h = rw (← e, lt-ltb i t hi, le-ltb j t h)
 
-    module _ (hj : j < t) (at : ℕ) (place : at ≡ tileIndex (s .head) i j) where
-      inside : tileIndex (s .head) i j < tileCount (s .head)
+    module _ (hj : j < t) (at : ℕ) (place : at ≡ tileIndex (tilesAcross (s .head)) i j) where
+      inside : tileIndex (tilesAcross (s .head)) i j < tileCount (s .head)
       inside = rw (← e) (digits-lt hj hi)
 
-      stands : getD (take (tileCount (s .head)) amounts) (tileIndex (s .head) i j) 0 ≡ getD amounts at 0
-      stands = getD-take (tileCount (s .head)) amounts (tileIndex (s .head) i j) 0 inside ∙ ap (λ (k : ℕ). getD amounts k 0) (sym place)
+      stands : numberAt (take (tileCount (s .head)) amounts) (tilesAcross (s .head)) i j ≡ getD amounts at 0
+      stands = getD-take (tileCount (s .head)) amounts (tileIndex (tilesAcross (s .head)) i j) 0 inside ∙ ap (λ (k : ℕ). getD amounts k 0) (sym place)
 
       pub fill-taken : (getD amounts at 0 ≡ 0 → ⊥) → 10 ≡ fillFault (standing s rects amounts) i j p
       unfolding fillFault
@@ -194,7 +146,7 @@ ready s rects amounts k =
 
 -- the place of a tile is in the table of amounts
 pub tile-in-table : (s : State) (rects amounts : List ℕ) (i j t at : ℕ) → Held s rects amounts → t ≡ tilesAcross (s .head) → i < t → j < t →
-    at ≡ tileIndex (s .head) i j → at < 4096
+    at ≡ tileIndex (tilesAcross (s .head)) i j → at < 4096
 tile-in-table s rects amounts i j t at k e hi hj place = rw place (lt-of-lt-of-le (rw (← e) (digits-lt hj hi)) (k .tiles))
 
 -- what the fillable area of a tile asks
@@ -218,8 +170,8 @@ module _ (s : State) (rects amounts : List ℕ) (f : Form) where
   pub own-unknown : f ≡ Unknown → 2 ≡ ownFault (standing s rects amounts) f
   own-unknown e = rw e
 
-  pub own-start : (h : Head) (n : ℕ) → f ≡ Start h → n ≡ unless (agrees h) 5 0 → n ≡ ownFault (standing s rects amounts) f
-  own-start h n e k = rw e k
+  pub own-heading : (h : Head) (n : ℕ) → f ≡ Heading h → n ≡ unless (agrees h) 5 0 → n ≡ ownFault (standing s rects amounts) f
+  own-heading h n e k = rw e k
 
   pub own-shape : (r : Rect) (n : ℕ) → f ≡ Shape r → n ≡ shapeFault (standing s rects []) r → n ≡ ownFault (standing s rects amounts) f
   unfolding shapeFault
@@ -237,9 +189,8 @@ module _ (s : State) (rects amounts : List ℕ) (f : Form) where
 
 -- what a tile's corners ask
 pub tile-corners : (h : Head) (i j d : ℕ) → GoodHead h → i < tilesAcross h → j < tilesAcross h → d ≡ tileSide h →
-    (((i + 1) * d ≤ 65535) × ((j + 1) * d ≤ 65535)) × ((i < 65535) × (j < 65535))
-tile-corners h i j d g hi hj e =
-    ((rw (e, add-one i) (tile-end h i f hi), rw (e, add-one j) (tile-end h j f hj)), (omega (arith, f .tiles-most), omega (arith, f .tiles-most)))
+    (suc i * d ≤ 1048576) × (suc j * d ≤ 1048576)
+tile-corners h i j d g hi hj e = (rw e (le-trans (tile-end h i f hi) (lit≤ tt)), rw e (le-trans (tile-end h j f hj) (lit≤ tt)))
   where
     f : HeadFacts h
     f = head-facts h g

@@ -10,7 +10,8 @@ use lib.Dec.{leb, ltb, eqb}
 use lib.Seq.{take-all}
 use lib.ListN.{length, drop, length-drop}
 use borrow.Author.Tests.{eqb-true, eqb-false, leb-true, leb-false, ltb-true, ltb-false}
-use Rattle.spelling.specs.Text.{inFront, parts, lineLength}
+use Rattle.spelling.specs.Text.{inFront, parts}
+use Rattle.spelling.specs.Scanning.{lineLength}
 use Rattle.jobfile.specs.declared.Form.{Form}
 use Rattle.jobfile.specs.declared.Turn.{Turn}
 use Rattle.jobfile.specs.declared.Turn.the-variants.{Before, Shapes, Fills, Done}

@@ -10,7 +10,8 @@ use lib.ListN.{length, take, drop, length-drop, take-append-drop, drop-of-length
 use lib.Seq.{drop-drop, length-take-le, take-all}
 use borrow.Author.Tests.{lt-ltb, le-ltb, le-leb, lt-leb, ltb-true, ltb-false, eq-eqb, ne-eqb}
 use Rattle.geometry.specs.Layout.{rectsOf}
-use Rattle.spelling.specs.Text.{inFront, parts, lineLength}
+use Rattle.spelling.specs.Text.{inFront, parts}
+use Rattle.spelling.specs.Scanning.{lineLength}
 use Rattle.spelling.proofs.Lines.{parts-line, parts-last}
 use Rattle.jobfile.specs.declared.Head.{Head}
 use Rattle.jobfile.specs.declared.Form.{Form}
@@ -23,8 +24,8 @@ use Rattle.jobfile.specs.declared.Turn.the-variants.{Before, Shapes, Fil
 use Rattle.jobfile.specs.Limits.{mostBytes}
 use Rattle.jobfile.specs.Forms.{formOf}
 use Rattle.jobfile.specs.Faults.{Standing, nothing, noHead, lineFault, standsAfter}
-use Rattle.jobfile.specs.File.{Outcome, refused, atEnd, afterLast, readLines, outcomeOf, tableOf, padded, asJob}
-use Rattle.jobfile.specs.Held.{tileCount, standing, Held, Entered, firstLine, firstFault, LineRead, endFault, jobOf}
+use Rattle.jobfile.specs.File.{Outcome, refused, atEnd, afterLast, readLines, outcomeOf}
+use Rattle.jobfile.specs.Held.{tileCount, standing, Held, Entered, firstLine, firstFault, LineRead, endFault, jobOf, tableOf, padded, asJob}
 use Rattle.jobfile.proofs.Tables.{table-of-rects, zeros}
 use Rattle.jobfile.proofs.Sound.{sound-nothing}
 use Rattle.jobfile.proofs.Entering.{held-count}

@@ -6,19 +6,20 @@ use mathlib.Core.List.{List}
 use mathlib.Core.Option.{Option}
 use lib.ListN.{getD}
 use Rattle.spelling.specs.declared.Reading.{Reading}
-use Rattle.spelling.specs.Pattern.{readAs, asReading}
+use Rattle.spelling.specs.Pattern.{readAs}
+use Rattle.spelling.specs.Scanning.{asReading}
 use Rattle.spelling.proofs.Patterns.{reading-found, reading-missed}
 use Rattle.jobfile.specs.declared.Form.{Form}
 use Rattle.jobfile.specs.declared.Form.the-variants.{Unknown, End}
 use Rattle.jobfile.specs.Limits.{mostDigits}
-use Rattle.jobfile.specs.Forms.{headPattern, rectPattern, fillPattern, endPattern, startForm, shapeForm, fillForm, endForm, formIf, formOf}
+use Rattle.jobfile.specs.Forms.{headPattern, rectPattern, fillPattern, endPattern, headingForm, shapeForm, fillForm, endForm, formIf, formOf}
 
 -- a form goes by its numbers, whatever stands behind them
 abbrev ByNumbers : (List ℕ → Form) → Type 0
 ByNumbers form = (s t : List ℕ) → ((i : ℕ) → getD s i 0 ≡ getD t i 0) → form s ≡ form t
 
-start-by : ByNumbers startForm
-start-by s t h = rw (h 0, h 1, h 2, h 3, h 4, h 5, h 6, h 7)
+heading-by : ByNumbers headingForm
+heading-by s t h = rw (h 0, h 1, h 2, h 3, h 4, h 5, h 6, h 7)
 
 shape-by : ByNumbers shapeForm
 shape-by s t h = rw (h 0, h 1, h 2, h 3)
@@ -38,20 +39,20 @@ not-read : (form : List ℕ → Form) (o : Option (List ℕ)) (q : Reading) (oth
 not-read form o q other e t = rw (reading-missed o q e t)
 
 module _ (line : List ℕ) (h : Reading) (eh : h ≡ asReading (readAs mostDigits headPattern line)) where
-  pub form-start : (r : Form) → h .ok ≡ true → r ≡ startForm (h .values) → r ≡ formOf line
+  pub form-heading : (r : Form) → h .ok ≡ true → r ≡ headingForm (h .values) → r ≡ formOf line
   unfolding formOf
-  form-start r t e = e ∙ sym (read startForm start-by (readAs mostDigits headPattern line) h _ eh t)
+  form-heading r t e = e ∙ sym (read headingForm heading-by (readAs mostDigits headPattern line) h _ eh t)
 
   module _ (th : h .ok ≡ false) (q : Reading) (eq : q ≡ asReading (readAs mostDigits rectPattern line)) where
     pub form-shape : (r : Form) → q .ok ≡ true → r ≡ shapeForm (q .values) → r ≡ formOf line
     unfolding formOf
     form-shape r t e =
-        e ∙ sym (not-read startForm (readAs mostDigits headPattern line) h _ eh th ∙ read shapeForm shape-by (readAs mostDigits rectPattern line) q _ eq t)
+        e ∙ sym (not-read headingForm (readAs mostDigits headPattern line) h _ eh th ∙ read shapeForm shape-by (readAs mostDigits rectPattern line) q _ eq t)
 
     module _ (tq : q .ok ≡ false) (f : Reading) (ef : f ≡ asReading (readAs mostDigits fillPattern line)) where
       earlier : formOf line ≡ formIf (readAs mostDigits fillPattern line) fillForm (formIf (readAs mostDigits endPattern line) endForm Unknown)
       unfolding formOf
-      earlier = not-read startForm (readAs mostDigits headPattern line) h _ eh th ∙ not-read shapeForm (readAs mostDigits rectPattern line) q _ eq tq
+      earlier = not-read headingForm (readAs mostDigits headPattern line) h _ eh th ∙ not-read shapeForm (readAs mostDigits rectPattern line) q _ eq tq
 
       pub form-fill : (r : Form) → f .ok ≡ true → r ≡ fillForm (f .values) → r ≡ formOf line
       form-fill r t e = e ∙ sym (earlier ∙ read fillForm fill-by (readAs mostDigits fillPattern line) f _ ef t)

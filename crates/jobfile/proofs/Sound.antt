@@ -1,7 +1,7 @@
 -- What is so after good lines stays so after one more.
 use Prim.Native.Nat.{ℕ, _+_, _*_, _/_, _%_, _≤_, _<_}
 use mathlib.Core.Path.{_≡_, refl, sym, ap, _∙_}
-use mathlib.Core.Bool.{true, _&&_, false≢true}
+use mathlib.Core.Bool.{true, false, not, _&&_, false≢true}
 use mathlib.Core.List.{List, [], _∷_, _++_}
 use native.Mathlib.Decide.{ℕ-discrete}
 use native.Mathlib.Omega.{arith}
@@ -9,21 +9,22 @@ use lib.Dec.{leb, ltb, eqb, lit<, lit≤}
 use lib.Arith.{digits-lt, digits-div, digits-mod}
 use lib.ListN.{length, getD, set, replicate, length-append, length-set, length-replicate}
 use lib.Seq.{getD-set-same, getD-set-other}
-use borrow.Author.Tests.{le-ltb, ltb-true, leb-true, eqb-true}
+use borrow.Author.Tests.{ltb-true, leb-true, eqb-true, not-true}
 use Rattle.geometry.specs.declared.Rect.{Rect}
-use Rattle.geometry.specs.Layout.{coveredArea, Disjoint}
+use Rattle.geometry.specs.Layout.{sharesSquare, Disjoint}
 use Rattle.geometry.proofs.Sharing.{shares-none}
 use Rattle.geometry.proofs.Tables.{disjoint-more}
 use Rattle.fill.specs.Eligible.{tile, fillableArea}
 use Rattle.spelling.proofs.Numerals.{both}
+use Rattle.fill.specs.Judge.{tileIndex, numberAt}
 use Rattle.jobfile.specs.declared.Head.{Head}
 use Rattle.jobfile.specs.declared.Form.{Form}
-use Rattle.jobfile.specs.declared.Form.the-variants.{Unknown, Start, Shape, Fill, End}
+use Rattle.jobfile.specs.declared.Form.the-variants.{Unknown, Heading, Shape, Fill, End}
 use Rattle.jobfile.specs.declared.Turn.{Turn}
 use Rattle.jobfile.specs.declared.Turn.the-variants.{Before, Shapes, Fills, Done}
 use Rattle.jobfile.specs.Limits.{mostShapes}
 use Rattle.jobfile.specs.Forms.{inRange, rectInRange, tileSide, tilesAcross, agrees}
-use Rattle.jobfile.specs.Faults.{Standing, nothing, inTurn, known, tileIndex, unless, fitsLayout, shapeFault, fillFault, ownFault, lineFault, standsAfter}
+use Rattle.jobfile.specs.Faults.{Standing, nothing, inTurn, known, unless, fitsLayout, shapeFault, fillFault, ownFault, lineFault, standsAfter}
 use Rattle.jobfile.specs.Held.{tileCount, GoodShapes, Sound}
 use Rattle.jobfile.proofs.Tests.{unless-none}
 use Rattle.jobfile.proofs.Tables.{getD-zeros}
@@ -47,29 +48,29 @@ no-fault st f e =
 pub record NoShapeFault (st : Standing) (r : Rect) : Type 0 where
   pub fits : fitsLayout (st .head) r ≡ true
   pub room : length (st .shapes) < mostShapes
-  pub free : coveredArea (st .shapes) r ≡ 0
+  pub free : sharesSquare (st .shapes) r ≡ false
 
 pub no-shape-fault : (st : Standing) (r : Rect) → shapeFault st r ≡ 0 → NoShapeFault st r
 unfolding shapeFault
 no-shape-fault st r e =
     let room = ltb (length (st .shapes)) mostShapes in
-    let free = eqb (coveredArea (st .shapes) r) 0 in
+    let free = not (sharesSquare (st .shapes) r) in
     let a = unless-none (fitsLayout (st .head) r) 6 (unless room 8 (unless free 9 0)) (lit< tt) e in
     let b = unless-none room 8 (unless free 9 0) (lit< tt) (a .1) in
     let c = unless-none free 9 0 (lit< tt) (b .1) in
-    record { fits = a .0; room = ltb-true _ _ (b .0); free = eqb-true _ _ (c .0) }
+    record { fits = a .0; room = ltb-true _ _ (b .0); free = not-true _ (c .0) }
 
 pub record NoFillFault (st : Standing) (i j p : ℕ) : Type 0 where
   pub column : i < tilesAcross (st .head)
   pub row : j < tilesAcross (st .head)
-  pub free : getD (st .amounts) (tileIndex (st .head) i j) 0 ≡ 0
+  pub free : numberAt (st .amounts) (tilesAcross (st .head)) i j ≡ 0
   pub fits : p ≤ fillableArea (st .head .gap) (st .shapes) (tile (tileSide (st .head)) i j)
 
 pub no-fill-fault : (st : Standing) (i j p : ℕ) → fillFault st i j p ≡ 0 → NoFillFault st i j p
 unfolding fillFault
 no-fill-fault st i j p e =
     let inside = ltb i (tilesAcross (st .head)) && ltb j (tilesAcross (st .head)) in
-    let free = eqb (getD (st .amounts) (tileIndex (st .head) i j) 0) 0 in
+    let free = eqb (numberAt (st .amounts) (tilesAcross (st .head)) i j) 0 in
     let fits = leb p (fillableArea (st .head .gap) (st .shapes) (tile (tileSide (st .head)) i j)) in
     let a = unless-none inside 7 (unless free 10 (unless fits 11 0)) (lit< tt) e in
     let b = unless-none free 10 (unless fits 11 0) (lit< tt) (a .1) in
@@ -86,9 +87,9 @@ shape-turn Fills r e = absurd (false≢true e)
 shape-turn Done r e = absurd (false≢true e)
 
 -- what is in turn and no head comes after the head
-pub after-head : (t : Turn) (f : Form) → inTurn t f ≡ true → ((h : Head) → f ≡ Start h → ⊥) → t ≡ Before → ⊥
+pub after-head : (t : Turn) (f : Form) → inTurn t f ≡ true → ((h : Head) → f ≡ Heading h → ⊥) → t ≡ Before → ⊥
 after-head Before Unknown e n b = absurd (false≢true e)
-after-head Before (Start h) e n b = n h refl
+after-head Before (Heading h) e n b = n h refl
 after-head Before (Shape r) e n b = absurd (false≢true e)
 after-head Before (Fill i j p) e n b = absurd (false≢true e)
 after-head Before End e n b = absurd (false≢true e)
@@ -125,9 +126,9 @@ amount-set t l i j p u v bound e hi hj hu hv fits old = go (ℕ-discrete (v * t 
 
 -- ---- one more line
 
-after-start : (st : Standing) (h : Head) → NoFault st (Start h) → Sound (standsAfter st (Start h))
+after-heading : (st : Standing) (h : Head) → NoFault st (Heading h) → Sound (standsAfter st (Heading h))
 unfolding standsAfter GoodShapes Disjoint
-after-start st h g =
+after-heading st h g =
     record {
       start = not-before;
       headed = λ n. record { range = g .range; agreement = unless-none (agrees h) 5 0 (lit< tt) (g .own) .0 };
@@ -136,7 +137,7 @@ after-start st h g =
       apart = tt;
       sized = length-replicate (tileCount h) 0;
       unfilled = λ e. refl;
-      fillable = λ i j hi hj. omega (arith, getD-zeros (tileCount h) (tileIndex h i j));
+      fillable = λ i j hi hj. omega (arith, getD-zeros (tileCount h) (tileIndex (tilesAcross h) i j));
     }
 
 after-shape : (st : Standing) (r : Rect) → Sound st → NoFault st (Shape r) → Sound (standsAfter st (Shape r))
@@ -147,10 +148,10 @@ after-shape st r s g =
       headed = λ n. s .headed (after-head (st .turn) (Shape r) (g .turn) (λ h e. let z : _≡_ {A = ℕ} 0 1 = cc in omega arith));
       few = omega (arith, length-append (st .shapes) (r ∷ []), k .room);
       good = good-more (st .head) (st .shapes) r (s .good) (g .range) (k .fits);
-      apart = disjoint-more (st .shapes) r (s .apart) (shares-none (st .shapes) r (le-ltb 0 (coveredArea (st .shapes) r) (omega (arith, k .free))));
+      apart = disjoint-more (st .shapes) r (s .apart) (shares-none (st .shapes) r (k .free));
       sized = s .sized;
       unfilled = λ e. none;
-      fillable = λ i j hi hj. omega (arith, ap (λ (l : List ℕ). getD l (tileIndex (st .head) i j) 0) none, getD-zeros (tileCount (st .head)) (tileIndex (st .head) i j));
+      fillable = λ i j hi hj. omega (arith, ap (λ (l : List ℕ). numberAt l (tilesAcross (st .head)) i j) none, getD-zeros (tileCount (st .head)) (tileIndex (tilesAcross (st .head)) i j));
     }
   where
     k : NoShapeFault st r
@@ -168,7 +169,7 @@ after-fill st i j p s g =
       few = s .few;
       good = s .good;
       apart = s .apart;
-      sized = length-set (st .amounts) (tileIndex (st .head) i j) p ∙ s .sized;
+      sized = length-set (st .amounts) (tileIndex (tilesAcross (st .head)) i j) p ∙ s .sized;
       unfilled = λ e. let z : _≡_ {A = ℕ} 0 1 = cc in absurd (omega arith);
       fillable = λ u v hu hv.
           amount-set (tilesAcross (st .head)) (st .amounts) i j p u v (λ a b. fillableArea (st .head .gap) (st .shapes) (tile (tileSide (st .head)) a b))
@@ -194,7 +195,7 @@ after-end st s g =
 
 sound-next : (st : Standing) (f : Form) → Sound st → NoFault st f → Sound (standsAfter st f)
 sound-next st Unknown s g = absurd (false≢true (g .spelled))
-sound-next st (Start h) s g = after-start st h g
+sound-next st (Heading h) s g = after-heading st h g
 sound-next st (Shape r) s g = after-shape st r s g
 sound-next st (Fill i j p) s g = after-fill st i j p s g
 sound-next st End s g = after-end st s g

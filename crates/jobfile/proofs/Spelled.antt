@@ -10,15 +10,16 @@ use borrow.Author.Tests.{ne-eqb, eqb-true, eqb-false, not-true}
 use lib.ListN.{length, getD}
 use Rattle.spelling.specs.Text.{bytes}
 use Rattle.spelling.specs.Decimal.{decimal, isDigit}
-use Rattle.spelling.specs.Pattern.{isPlace, places, spell, readAs}
+use Rattle.spelling.specs.Pattern.{isPlace, spell, readAs}
+use Rattle.spelling.specs.Scanning.{places}
 use Rattle.spelling.proofs.Numerals.{both, allDigits, digit-from, all-decimal}
 use Rattle.spelling.proofs.Patterns.{spell-place, spell-byte, read-same, read-other}
 use Rattle.spelling.proofs.Inverse.{EachBelow, Spelled, read-is-spelled, wellFormed, spelled-is-read}
 use Rattle.jobfile.specs.declared.Head.{Head}
 use Rattle.jobfile.specs.declared.Form.{Form}
-use Rattle.jobfile.specs.declared.Form.the-variants.{Unknown, Start, Shape, Fill, End}
+use Rattle.jobfile.specs.declared.Form.the-variants.{Unknown, Heading, Shape, Fill, End}
 use Rattle.jobfile.specs.Limits.{mostDigits, mostTiles, mostAmount}
-use Rattle.jobfile.specs.Forms.{headPattern, rectPattern, fillPattern, endPattern, startForm, shapeForm, fillForm, endForm, formIf, formOf, within, inRange}
+use Rattle.jobfile.specs.Forms.{headPattern, rectPattern, fillPattern, endPattern, headingForm, shapeForm, fillForm, endForm, formIf, formOf, within, inRange}
 use Rattle.jobfile.specs.Faults.{known}
 use Rattle.jobfile.proofs.Heads.{ranges, between}
 use Rattle.jobfile.proofs.Tables.{fourOf, corners}
@@ -31,7 +32,7 @@ headNumbers h = h .size ∷ h .window ∷ h .cut ∷ h .gap ∷ h .lower ∷ h .
 -- a line that is none of the spellings has none
 unfoldable pub spellingOf : Form → List ℕ
 spellingOf Unknown = []
-spellingOf (Start h) = spell headPattern (headNumbers h)
+spellingOf (Heading h) = spell headPattern (headNumbers h)
 spellingOf (Shape r) = spell rectPattern (fourOf r)
 spellingOf (Fill i j p) = spell fillPattern (i ∷ j ∷ p ∷ [])
 spellingOf End = spell endPattern []
@@ -70,7 +71,7 @@ SpelledAs line f = known f ≡ true → line ≡ spellingOf f
 pub form-spelled : (line : List ℕ) → known (formOf line) ≡ true → line ≡ spellingOf (formOf line)
 unfolding formOf spellingOf places bytes headPattern rectPattern fillPattern endPattern
 form-spelled line =
-    if-read headPattern line startForm _ (SpelledAs line) (λ ns k e. spelled-by headPattern line ns 8 refl k)
+    if-read headPattern line headingForm _ (SpelledAs line) (λ ns k e. spelled-by headPattern line ns 8 refl k)
     (if-read rectPattern line shapeForm _ (SpelledAs line) (λ ns k e. spelled-by rectPattern line ns 4 refl k)
     (if-read fillPattern line fillForm _ (SpelledAs line) (λ ns k e. spelled-by fillPattern line ns 3 refl k)
     (if-read endPattern line endForm Unknown (SpelledAs line) (λ ns k e. spelled-by endPattern line ns 0 refl k) (λ e. absurd (false≢true e)))))
@@ -80,7 +81,7 @@ form-spelled line =
 -- the numbers of a form have at most ten digits
 abbrev pub Writable : Form → Type 0
 Writable Unknown = ⊥
-Writable (Start h) = EachBelow (10 ^ mostDigits) (headNumbers h)
+Writable (Heading h) = EachBelow (10 ^ mostDigits) (headNumbers h)
 Writable (Shape r) = EachBelow (10 ^ mostDigits) (fourOf r)
 Writable (Fill i j p) = EachBelow (10 ^ mostDigits) (i ∷ j ∷ p ∷ [])
 Writable End = Unit {0}
@@ -112,7 +113,7 @@ clash-none (c ∷ p) (d ∷ q) ns e = rw (spell-byte d q (not-true (isPlace d) (
 pub spelling-read : (f : Form) → Writable f → formOf (spellingOf f) ≡ f
 unfolding formOf spellingOf clash places wellFormed bytes headPattern rectPattern fillPattern endPattern
 spelling-read Unknown b = absurd b
-spelling-read (Start h) b = rw (spelled-is-read mostDigits headPattern (headNumbers h) (lit≤ tt) refl refl b)
+spelling-read (Heading h) b = rw (spelled-is-read mostDigits headPattern (headNumbers h) (lit≤ tt) refl refl b)
 spelling-read (Shape r) b = rw (clash-none headPattern rectPattern (fourOf r) refl, spelled-is-read mostDigits rectPattern (fourOf r) (lit≤ tt) refl refl b)
 spelling-read (Fill i j p) b =
     rw (
@@ -132,7 +133,7 @@ spelling-read End b =
 
 pub in-range-writable : (f : Form) → known f ≡ true → inRange f ≡ true → Writable f
 in-range-writable Unknown k e = absurd (false≢true k)
-in-range-writable (Start h) k e =
+in-range-writable (Heading h) k e =
     let r = ranges h e in (
       omega (arith, r .size .most),
       (
@@ -199,7 +200,7 @@ feedless-spell (c ∷ p) (n ∷ ns) a =
 pub spelling-feedless : (f : Form) → feedless (spellingOf f) ≡ true
 unfolding feedless spellingOf bytes headPattern rectPattern fillPattern endPattern
 spelling-feedless Unknown = refl
-spelling-feedless (Start h) = feedless-spell headPattern (headNumbers h) refl
+spelling-feedless (Heading h) = feedless-spell headPattern (headNumbers h) refl
 spelling-feedless (Shape r) = feedless-spell rectPattern (fourOf r) refl
 spelling-feedless (Fill i j p) = feedless-spell fillPattern (i ∷ j ∷ p ∷ []) refl
 spelling-feedless End = feedless-spell endPattern [] refl

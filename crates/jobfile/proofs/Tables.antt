@@ -16,8 +16,7 @@ use Rattle.spelling.proofs.Numerals.{both}
 use Rattle.jobfile.specs.declared.Head.{Head}
 use Rattle.jobfile.specs.Limits.{mostSide}
 use Rattle.jobfile.specs.Forms.{within, rectInRange}
-use Rattle.jobfile.specs.File.{tableOf}
-use Rattle.jobfile.specs.Held.{GoodShapes, withShape}
+use Rattle.jobfile.specs.Held.{GoodShapes, withShape, tableOf}
 use Rattle.jobfile.proofs.Heads.{between}
 
 abbrev pub fourOf : Rect → List ℕ

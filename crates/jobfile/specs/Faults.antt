@@ -1,15 +1,16 @@
 -- Document 01, "Faults that come from the input" and "Faults that come from what already stands": the faults of one line.
-use Prim.Native.Nat.{ℕ, _+_, _*_}
-use mathlib.Core.Bool.{Bool, true, false, _&&_}
+use Prim.Native.Nat.{ℕ, _*_}
+use mathlib.Core.Bool.{Bool, true, false, not, _&&_}
 use mathlib.Core.List.{List, [], _∷_, _++_}
 use lib.Dec.{leb, ltb, eqb}
-use lib.ListN.{length, getD, set, replicate}
+use lib.ListN.{length, set, replicate}
 use Rattle.geometry.specs.declared.Rect.{Rect}
-use Rattle.geometry.specs.Layout.{coveredArea}
+use Rattle.geometry.specs.Layout.{sharesSquare}
 use Rattle.fill.specs.Eligible.{tile, fillableArea}
+use Rattle.fill.specs.Judge.{tileIndex, numberAt}
 use Rattle.jobfile.specs.declared.Head.{Head}
 use Rattle.jobfile.specs.declared.Form.{Form}
-use Rattle.jobfile.specs.declared.Form.the-variants.{Unknown, Start, Shape, Fill, End}
+use Rattle.jobfile.specs.declared.Form.the-variants.{Unknown, Heading, Shape, Fill, End}
 use Rattle.jobfile.specs.declared.Turn.{Turn}
 use Rattle.jobfile.specs.declared.Turn.the-variants.{Before, Shapes, Fills, Done}
 use Rattle.jobfile.specs.Limits.{mostShapes}
@@ -28,28 +29,23 @@ noHead = record { size = 0; window = 0; cut = 0; gap = 0; lower = 0; upper = 0; 
 abbrev pub nothing : Standing
 nothing = record { turn = Before; head = noHead; shapes = []; amounts = [] }
 
+-- where a form comes in a file; 0 for a line that is none of the spellings
+abbrev pub rankOf : Form → ℕ
+rankOf Unknown = 0
+rankOf (Heading h) = 1
+rankOf (Shape r) = 2
+rankOf (Fill i j p) = 3
+rankOf End = 4
+
+abbrev pub known : Form → Bool
+known f = ltb 0 (rankOf f)
+
 -- whether a form comes in turn: the head first and once, then rectangles, then fills, then the end, and nothing after it
 abbrev pub inTurn : Turn → Form → Bool
-inTurn Before Unknown = false
-inTurn Before (Start h) = true
-inTurn Before (Shape r) = false
-inTurn Before (Fill i j p) = false
-inTurn Before End = false
-inTurn Shapes Unknown = false
-inTurn Shapes (Start h) = false
-inTurn Shapes (Shape r) = true
-inTurn Shapes (Fill i j p) = true
-inTurn Shapes End = true
-inTurn Fills Unknown = false
-inTurn Fills (Start h) = false
-inTurn Fills (Shape r) = false
-inTurn Fills (Fill i j p) = true
-inTurn Fills End = true
+inTurn Before f = eqb (rankOf f) 1
+inTurn Shapes f = leb 2 (rankOf f)
+inTurn Fills f = leb 3 (rankOf f)
 inTurn Done f = false
-
--- where tile (i, j) stands in a table of amounts
-abbrev pub tileIndex : Head → (i j : ℕ) → ℕ
-tileIndex h i j = j * tilesAcross h + i
 
 -- a number where a test fails, else what the tests after it give
 abbrev pub unless : Bool → ℕ → ℕ → ℕ
@@ -67,7 +63,7 @@ shapeFault st r =
     -- 8: 256 rectangles stand already
     (unless (ltb (length (st .shapes)) mostShapes) 8
     -- 9: it shares a unit square with one that stands
-    (unless (eqb (coveredArea (st .shapes) r) 0) 9
+    (unless (not (sharesSquare (st .shapes) r)) 9
     0))
 
 -- the faults of a fill
@@ -76,7 +72,7 @@ fillFault st i j p =
     -- 7: I or J is not below N/(W/R)
     unless (ltb i (tilesAcross (st .head)) && ltb j (tilesAcross (st .head))) 7
     -- 10: the tile has a fill already, which is an amount other than 0, since fault 3 refuses P = 0
-    (unless (eqb (getD (st .amounts) (tileIndex (st .head) i j) 0) 0) 10
+    (unless (eqb (numberAt (st .amounts) (tilesAcross (st .head)) i j) 0) 10
     -- 11: P exceeds the tile's fillable area
     (unless (leb p (fillableArea (st .head .gap) (st .shapes) (tile (tileSide (st .head)) i j))) 11
     0))
@@ -84,17 +80,10 @@ fillFault st i j p =
 -- the faults that a form of its own kind may have; 5: the head disagrees. An unknown form does not come here: `lineFault`
 abbrev pub ownFault : Standing → Form → ℕ
 ownFault st Unknown = 2
-ownFault st (Start h) = unless (agrees h) 5 0
+ownFault st (Heading h) = unless (agrees h) 5 0
 ownFault st (Shape r) = shapeFault st r
 ownFault st (Fill i j p) = fillFault st i j p
 ownFault st End = 0
-
-abbrev pub known : Form → Bool
-known Unknown = false
-known (Start h) = true
-known (Shape r) = true
-known (Fill i j p) = true
-known End = true
 
 -- the lowest number of a fault that a line has, 0 for none: 2 none of the spellings, 3 out of range, 4 out of turn, then the others
 unfoldable pub lineFault : Standing → Form → ℕ
@@ -103,8 +92,8 @@ lineFault st f = unless (known f) 2 (unless (inRange f) 3 (unless (inTurn (st .t
 -- what stands after a good line, which is never an unknown form
 unfoldable pub standsAfter : Standing → Form → Standing
 standsAfter st Unknown = st
-standsAfter st (Start h) = record { turn = Shapes; head = h; shapes = []; amounts = replicate (tilesAcross h * tilesAcross h) 0 }
+standsAfter st (Heading h) = record { turn = Shapes; head = h; shapes = []; amounts = replicate (tilesAcross h * tilesAcross h) 0 }
 standsAfter st (Shape r) = record { turn = Shapes; head = st .head; shapes = st .shapes ++ (r ∷ []); amounts = st .amounts }
 standsAfter st (Fill i j p) =
-    record { turn = Fills; head = st .head; shapes = st .shapes; amounts = set (st .amounts) (tileIndex (st .head) i j) p }
+    record { turn = Fills; head = st .head; shapes = st .shapes; amounts = set (st .amounts) (tileIndex (tilesAcross (st .head)) i j) p }
 standsAfter st End = record { turn = Done; head = st .head; shapes = st .shapes; amounts = st .amounts }

@@ -1,17 +1,15 @@
 -- Document 01, the order of faults in a file: 1 first; then the earliest faulty line, in it the lowest number; then 12.
-use Prim.Native.Nat.{ℕ, suc, _-_, _*_}
+use Prim.Native.Nat.{ℕ, suc}
 use mathlib.Core.Bool.{true, false}
-use mathlib.Core.List.{List, [], _∷_, _++_}
+use mathlib.Core.List.{List, [], _∷_}
 use lib.Dec.{leb, eqb}
-use lib.ListN.{length, replicate}
-use Rattle.geometry.specs.declared.Rect.{Rect}
+use lib.ListN.{length}
 use Rattle.spelling.specs.Text.{parts}
 use Rattle.jobfile.specs.declared.Turn.{Turn}
 use Rattle.jobfile.specs.declared.Turn.the-variants.{Before, Shapes, Fills, Done}
-use Rattle.jobfile.specs.declared.Job.{Job}
-use Rattle.jobfile.specs.Limits.{mostBytes, mostShapes, mostTiles}
+use Rattle.jobfile.specs.Limits.{mostBytes}
 use Rattle.jobfile.specs.Forms.{formOf}
-use Rattle.jobfile.specs.Faults.{Standing, nothing, noHead, lineFault, standsAfter}
+use Rattle.jobfile.specs.Faults.{Standing, nothing, lineFault, standsAfter}
 
 -- what a file comes to: the number and line of its first fault, or what stands at its end
 pub data Outcome : Type 0 where
@@ -41,26 +39,3 @@ readLines st k (line ∷ next ∷ more) =
 -- the whole file
 unfoldable pub outcomeOf : List ℕ → Outcome
 outcomeOf file = elim (leb (length file) mostBytes) [ true ↦ readLines nothing 1 (parts file) | false ↦ refused 1 0 ]
-
--- a table of rectangles, four numbers each
-unfoldable pub tableOf : List Rect → List ℕ
-tableOf [] = []
-tableOf (r ∷ rs) = r .x1 ∷ r .y1 ∷ r .x2 ∷ r .y2 ∷ tableOf rs
-
--- a list filled up with 0 to n numbers
-abbrev pub padded : ℕ → List ℕ → List ℕ
-padded n s = s ++ replicate (n - length s) 0
-
--- the outcome as the reader returns it
-abbrev pub asJob : Outcome → Job
-asJob (refused number line) =
-    record { fault = number; line = line; head = noHead; count = 0; rects = replicate (4 * mostShapes) 0; amounts = replicate (mostTiles * mostTiles) 0 }
-asJob (accepted st) =
-    record {
-      fault = 0;
-      line = 0;
-      head = st .head;
-      count = length (st .shapes);
-      rects = padded (4 * mostShapes) (tableOf (st .shapes));
-      amounts = padded (mostTiles * mostTiles) (st .amounts);
-    }

@@ -10,7 +10,7 @@ use Rattle.spelling.specs.Text.{bytes}
 use Rattle.spelling.specs.Pattern.{readAs}
 use Rattle.jobfile.specs.declared.Head.{Head}
 use Rattle.jobfile.specs.declared.Form.{Form}
-use Rattle.jobfile.specs.declared.Form.the-variants.{Unknown, Start, Shape, Fill, End}
+use Rattle.jobfile.specs.declared.Form.the-variants.{Unknown, Heading, Shape, Fill, End}
 use Rattle.jobfile.specs.Limits.{mostDigits, mostSide, mostTiles, mostBound, mostAccuracy, mostLevels, mostAmount}
 
 -- the spellings, without the line feed; each # is a number
@@ -27,9 +27,9 @@ unfoldable pub endPattern : List ℕ
 endPattern = bytes "(end)"
 
 -- the form of a spelling's numbers
-abbrev pub startForm : List ℕ → Form
-startForm ns =
-    Start
+abbrev pub headingForm : List ℕ → Form
+headingForm ns =
+    Heading
     (record {
       size = getD ns 0 0;
       window = getD ns 1 0;
@@ -58,7 +58,7 @@ formIf (some ns) form other = form ns
 -- the form that a line spells, without its line feed
 unfoldable pub formOf : List ℕ → Form
 formOf line =
-    formIf (readAs mostDigits headPattern line) startForm
+    formIf (readAs mostDigits headPattern line) headingForm
     (formIf (readAs mostDigits rectPattern line) shapeForm
     (formIf (readAs mostDigits fillPattern line) fillForm
     (formIf (readAs mostDigits endPattern line) endForm
@@ -83,7 +83,7 @@ fillInRange i j p = within 0 (mostTiles - 1) i && within 0 (mostTiles - 1) j && 
 
 abbrev pub inRange : Form → Bool
 inRange Unknown = true
-inRange (Start h) = headInRange h
+inRange (Heading h) = headInRange h
 inRange (Shape r) = rectInRange r
 inRange (Fill i j p) = fillInRange i j p
 inRange End = true

@@ -1,35 +1,28 @@
--- How the reader holds what stands: a small state by value and two lent tables; and what is always so of what stands after good lines.
+-- How the reader holds what stands: a small state by value and two lent tables; what is always so of what stands after good lines; and how the
+-- reader hands back a file's outcome. A buyer need not read it: no contract of the unit's public functions names it.
 use Prim.Native.Nat.{ℕ, _+_, _-_, _*_, _≤_, _<_}
 use mathlib.Core.Path.{_≡_}
 use mathlib.Core.Bool.{true, false}
-use mathlib.Core.List.{List, [], _∷_}
+use mathlib.Core.List.{List, [], _∷_, _++_}
 use lib.Dec.{ltb, eqb}
-use lib.ListN.{length, getD, take, drop, set, replicate}
+use lib.ListN.{length, take, drop, set, replicate}
 use Rattle.geometry.specs.declared.Rect.{Rect}
 use Rattle.geometry.specs.Layout.{Disjoint, rectsOf}
-use Rattle.spelling.specs.Text.{lineLength}
+use Rattle.spelling.specs.Scanning.{lineLength}
 use Rattle.fill.specs.Eligible.{tile, fillableArea}
+use Rattle.fill.specs.Judge.{numberAt}
 use Rattle.jobfile.specs.declared.Head.{Head}
 use Rattle.jobfile.specs.declared.Form.{Form}
-use Rattle.jobfile.specs.declared.Form.the-variants.{Unknown, Start, Shape, Fill, End}
 use Rattle.jobfile.specs.declared.Turn.{Turn}
 use Rattle.jobfile.specs.declared.Turn.the-variants.{Before, Shapes, Fills, Done}
 use Rattle.jobfile.specs.declared.State.{State}
 use Rattle.jobfile.specs.declared.Step.{Step}
 use Rattle.jobfile.specs.declared.Ending.{Ending}
 use Rattle.jobfile.specs.declared.Job.{Job}
-use Rattle.jobfile.specs.Limits.{mostShapes}
+use Rattle.jobfile.specs.Limits.{mostShapes, mostTiles}
 use Rattle.jobfile.specs.Forms.{formOf, headInRange, rectInRange, tileSide, tilesAcross, agrees}
-use Rattle.jobfile.specs.Faults.{Standing, nothing, fitsLayout, tileIndex, lineFault, standsAfter}
-use Rattle.jobfile.specs.File.{refused, asJob}
-
--- where a form comes in a file; 0 for a line that is none of the spellings
-abbrev pub rankOf : Form → ℕ
-rankOf Unknown = 0
-rankOf (Start h) = 1
-rankOf (Shape r) = 2
-rankOf (Fill i j p) = 3
-rankOf End = 4
+use Rattle.jobfile.specs.Faults.{Standing, nothing, noHead, fitsLayout, lineFault, standsAfter}
+use Rattle.jobfile.specs.File.{Outcome, refused, accepted}
 
 -- the number of tiles of a layout
 abbrev pub tileCount : Head → ℕ
@@ -60,7 +53,7 @@ pub record Sound (st : Standing) : Type 0 where
   pub sized : length (st .amounts) ≡ tileCount (st .head)
   pub unfilled : st .turn ≡ Shapes → st .amounts ≡ replicate (tileCount (st .head)) 0
   pub fillable : (i j : ℕ) → i < tilesAcross (st .head) → j < tilesAcross (st .head) →
-      getD (st .amounts) (tileIndex (st .head) i j) 0 ≤ fillableArea (st .head .gap) (st .shapes) (tile (tileSide (st .head)) i j)
+      numberAt (st .amounts) (tilesAcross (st .head)) i j ≤ fillableArea (st .head .gap) (st .shapes) (tile (tileSide (st .head)) i j)
 
 -- a state and its tables hold what stands: 0 behind the rectangles and behind the amounts
 pub record Held (s : State) (rects amounts : List ℕ) : Type 0 where
@@ -102,6 +95,29 @@ endFault Before = 12
 endFault Shapes = 12
 endFault Fills = 12
 endFault Done = 0
+
+-- a table of rectangles, four numbers each
+unfoldable pub tableOf : List Rect → List ℕ
+tableOf [] = []
+tableOf (r ∷ rs) = r .x1 ∷ r .y1 ∷ r .x2 ∷ r .y2 ∷ tableOf rs
+
+-- a list filled up with 0 to n numbers
+abbrev pub padded : ℕ → List ℕ → List ℕ
+padded n s = s ++ replicate (n - length s) 0
+
+-- the outcome as the reader returns it
+abbrev pub asJob : Outcome → Job
+asJob (refused number line) =
+    record { fault = number; line = line; head = noHead; count = 0; rects = replicate (4 * mostShapes) 0; amounts = replicate (mostTiles * mostTiles) 0 }
+asJob (accepted st) =
+    record {
+      fault = 0;
+      line = 0;
+      head = st .head;
+      count = length (st .shapes);
+      rects = padded (4 * mostShapes) (tableOf (st .shapes));
+      amounts = padded (mostTiles * mostTiles) (st .amounts);
+    }
 
 -- the job of an ending and its tables, which count only where no fault was found
 unfoldable pub jobOf : Ending → (rects amounts : List ℕ) → Job

@@ -11,18 +11,19 @@ use crate::forms::tiles_across;
 use crate::held::tile_place;
 use crate::limits::MOST_SHAPES;
 use fill::fillable;
+use fill::tile_box;
 use geometry::Rect;
 use geometry::shares_square;
 ghost use mathlib.Core.Path.{_≡_};
 ghost use mathlib.Core.Bool.{true};
 ghost use mathlib.Core.List.{[]};
-ghost use Prim.Native.Nat.{_+_, _*_, _≤_, _<_};
+ghost use Prim.Native.Nat.{_*_, _≤_, _<_};
 ghost use lib.ListN.{length, take};
 ghost use Rattle.geometry.specs.Layout.{rectsOf, Drawn};
 ghost use Rattle.fill.specs.Eligible.{tile, fillableArea};
 ghost use Rattle.jobfile.specs.Forms.{tileSide, tilesAcross, agrees};
-ghost use Rattle.jobfile.specs.Faults.{inTurn, known, unless, fitsLayout, shapeFault, fillFault, ownFault, lineFault};
-ghost use Rattle.jobfile.specs.Held.{rankOf, standing, GoodHead, Held};
+ghost use Rattle.jobfile.specs.Faults.{rankOf, known, inTurn, unless, fitsLayout, shapeFault, fillFault, ownFault, lineFault};
+ghost use Rattle.jobfile.specs.Held.{standing, GoodHead, Held};
 
 // Where a form comes in a file: the head, rectangles, fills, the end; 0 for a
 // line that is none of the spellings.
@@ -31,7 +32,7 @@ fn rank(f: Form) -> u64
 {
     match f {
         Form::Unknown => 0,
-        Form::Start(_) => 1,
+        Form::Heading(_) => 1,
         Form::Shape(_) => 2,
         Form::Fill {
             column: _,
@@ -90,20 +91,6 @@ fn shape_fault(s: State, rects: &[u64], r: Rect) -> u64
     0
 }
 
-// Tile (i, j) of side d.
-fn tile_box(d: u64, i: u64, j: u64) -> Rect
-    requires { ⌜ ((i + 1) * d ≤ 65535) × ((j + 1) * d ≤ 65535) ⌝ }
-    requires { ⌜ (i < 65535) × (j < 65535) ⌝ }
-    ensures { λ r. ⌜ r ≡ tile d i j ⌝ }
-{
-    Rect {
-        x1: i * d,
-        y1: j * d,
-        x2: (i + 1) * d,
-        y2: (j + 1) * d,
-    }
-}
-
 // The fillable area of tile (i, j).
 fn tile_room(s: State, rects: &[u64], i: u64, j: u64) -> u64
     requires { ⌜ 4 * s .count ≤ length (now rects) ⌝ }
@@ -151,7 +138,7 @@ fn own_fault(s: State, f: Form, rects: &[u64], amounts: &[u64]) -> u64
 {
     match f {
         Form::Unknown => 2,
-        Form::Start(h) => head_fault(h),
+        Form::Heading(h) => head_fault(h),
         Form::Shape(r) => shape_fault(s, rects, r),
         Form::Fill {
             column,

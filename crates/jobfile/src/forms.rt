@@ -15,13 +15,13 @@ ghost use mathlib.Core.Bool.{_&&_};
 ghost use Prim.Native.Nat.{_/_, _%_};
 ghost use lib.Dec.{leb, eqb};
 ghost use Rattle.jobfile.specs.Limits.{mostTiles};
-ghost use Rattle.jobfile.specs.Forms.{startForm, shapeForm, fillForm, formOf, within, headInRange, rectInRange, fillInRange, inRange, tileSide, tilesAcross, agrees};
+ghost use Rattle.jobfile.specs.Forms.{headingForm, shapeForm, fillForm, formOf, within, headInRange, rectInRange, fillInRange, inRange, tileSide, tilesAcross, agrees};
 
 // The forms of a spelling's numbers.
-fn start_form(v: [u64; 8]) -> Form
-    ensures { λ r. ⌜ r ≡ startForm v ⌝ }
+fn heading_form(v: [u64; 8]) -> Form
+    ensures { λ r. ⌜ r ≡ headingForm v ⌝ }
 {
-    Form::Start(Head {
+    Form::Heading(Head {
         size: v[0],
         window: v[1],
         cut: v[2],
@@ -65,7 +65,7 @@ pub fn form_of(line: &[u8]) -> Form
     );
     if head.ok {
         let v = head.values;
-        return start_form(v);
+        return heading_form(v);
     }
     let rect = read_as(line, b"(rect # # # #)", MOST_DIGITS);
     if rect.ok {
@@ -131,7 +131,7 @@ pub fn in_range(f: Form) -> bool
 {
     match f {
         Form::Unknown => true,
-        Form::Start(h) => head_in_range(h),
+        Form::Heading(h) => head_in_range(h),
         Form::Shape(r) => rect_in_range(r),
         Form::Fill {
             column,

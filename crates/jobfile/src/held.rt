@@ -8,8 +8,9 @@ use geometry::Rect;
 ghost use mathlib.Core.Path.{_≡_};
 ghost use Prim.Native.Nat.{_+_, _*_, _≤_, _<_};
 ghost use lib.ListN.{length, set};
+ghost use Rattle.fill.specs.Judge.{tileIndex};
 ghost use Rattle.jobfile.specs.Forms.{tilesAcross};
-ghost use Rattle.jobfile.specs.Faults.{noHead, tileIndex, lineFault};
+ghost use Rattle.jobfile.specs.Faults.{noHead, lineFault};
 ghost use Rattle.jobfile.specs.Held.{standing, Held, withShape, Entered};
 
 // Before the head.
@@ -31,7 +32,7 @@ pub fn no_head() -> Head
 // The place of tile (i, j) in the table of amounts.
 pub fn tile_place(h: Head, i: u64, j: u64) -> usize
     requires { ⌜ (tilesAcross h ≤ 64) × (i < tilesAcross h) × (j < tilesAcross h) ⌝ }
-    ensures { λ r. ⌜ r ≡ tileIndex h i j ⌝ }
+    ensures { λ r. ⌜ r ≡ tileIndex (tilesAcross h) i j ⌝ }
 {
     let tiles = tiles_across(h);
     (j * tiles + i) as usize
@@ -52,8 +53,8 @@ fn store_shape(rects: &mut [u64], count: usize, r: Rect)
 // Stores the amount of tile (i, j).
 fn store_amount(amounts: &mut [u64], h: Head, i: u64, j: u64, p: u64)
     requires { ⌜ (tilesAcross h ≤ 64) × (i < tilesAcross h) × (j < tilesAcross h) ⌝ }
-    requires { ⌜ tileIndex h i j < length (now amounts) ⌝ }
-    ensures { λ u. ⌜ now (amounts .exit) ≡ set (now (amounts .entry)) (tileIndex h i j) p ⌝ }
+    requires { ⌜ tileIndex (tilesAcross h) i j < length (now amounts) ⌝ }
+    ensures { λ u. ⌜ now (amounts .exit) ≡ set (now (amounts .entry)) (tileIndex (tilesAcross h) i j) p ⌝ }
 {
     let at = tile_place(h, i, j);
     amounts[at] = p;
@@ -69,7 +70,7 @@ pub fn enter(s: State, f: Form, rects: &mut [u64], amounts: &mut [u64]) -> State
     let count = s.count;
     match f {
         Form::Unknown => s,
-        Form::Start(h) => State {
+        Form::Heading(h) => State {
             turn: Turn::Shapes,
             head: h,
             count: 0,

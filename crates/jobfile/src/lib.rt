@@ -12,7 +12,8 @@ use limits::MOST_BYTES;
 use reader::read_lines;
 use reader::refusal;
 ghost use mathlib.Core.Path.{_≡_};
-ghost use Rattle.jobfile.specs.File.{outcomeOf, asJob};
+ghost use Rattle.jobfile.specs.File.{outcomeOf};
+ghost use Rattle.jobfile.specs.Held.{asJob};
 
 // The numbers of the head, in the order of their spelling.
 pub struct Head {
@@ -29,7 +30,7 @@ pub struct Head {
 // What a line spells. Unknown is a line that is none of the spellings.
 pub enum Form {
     Unknown,
-    Start(Head),
+    Heading(Head),
     Shape(Rect),
     Fill { column: u64, row: u64, amount: u64 },
     End,

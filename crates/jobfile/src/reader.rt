@@ -13,8 +13,8 @@ ghost use mathlib.Core.Path.{_≡_};
 ghost use lib.ListN.{replicate};
 ghost use Rattle.spelling.specs.Text.{parts};
 ghost use Rattle.jobfile.specs.Faults.{nothing};
-ghost use Rattle.jobfile.specs.File.{refused, readLines, asJob};
-ghost use Rattle.jobfile.specs.Held.{Held, LineRead, endFault, jobOf};
+ghost use Rattle.jobfile.specs.File.{refused, readLines};
+ghost use Rattle.jobfile.specs.Held.{Held, LineRead, endFault, jobOf, asJob};
 
 // Reads the first line of what is left of a file.
 fn read_line(rest: &[u8], s: State, rects: &mut [u64], amounts: &mut [u64]) -> Step

@@ -8,7 +8,8 @@ use Rattle.fill.specs.Judge.{verdictOf}
 use Rattle.jobfile.specs.declared.Head.{Head}
 use Rattle.jobfile.specs.declared.Job.{Job}
 use Rattle.jobfile.specs.Forms.{tileSide, tilesAcross}
-use Rattle.jobfile.specs.File.{Outcome, refused, accepted, outcomeOf, asJob}
+use Rattle.jobfile.specs.File.{Outcome, refused, accepted, outcomeOf}
+use Rattle.jobfile.specs.Held.{asJob}
 use Rattle.unit.specs.declared.run.Answer.{Answer}
 use Rattle.unit.specs.Answering.{answerOf}
 use Rattle.unit.specs.Room.{standingOf, jobStanding}

@@ -1,17 +1,18 @@
 -- A number read digit by digit at a place of a line.
-use Prim.Native.Nat.{ℕ, zero, suc, _+_, _-_, _*_, _^_, _≤_, _<_}
+use Prim.Native.Nat.{ℕ, suc, _+_, _-_, _*_, _^_, _≤_, _<_}
 use mathlib.Core.Path.{_≡_, refl, sym, ap, ap₂, _∙_}
 use mathlib.Core.Bool.{Bool, true, false, not, _&&_}
-use mathlib.Core.List.{List, [], _∷_, _++_}
-use native.Mathlib.Nat.{add-zero, add-assoc, pow-suc, pow-le-pow-right, lt-of-lt-of-le}
+use mathlib.Core.List.{List, [], _∷_}
+use native.Mathlib.Nat.{add-zero, add-assoc, pow-suc, pow-le-pow-right}
 use native.Mathlib.Numerals.{add-one}
 use native.Mathlib.Omega.{arith}
-use borrow.Author.Tests.{le-leb, lt-leb, leb-true, leb-false}
-use lib.Dec.{leb, eqb}
+use borrow.Author.Tests.{le-leb, lt-leb}
+use lib.Dec.{eqb}
 use lib.ListN.{length, getD, drop, drop-of-length-le, length-drop}
 use lib.Seq.{drop-cons, drop-drop, getD-drop}
 use Rattle.spelling.specs.declared.Numeral.{Numeral}
-use Rattle.spelling.specs.Decimal.{isDigit, digitsOf, digitFirst, valueFrom, spells, isNumeral, asNumeral}
+use Rattle.spelling.specs.Decimal.{isDigit, digitsOf, valueFrom, spells, isNumeral}
+use Rattle.spelling.specs.Scanning.{digitFirst, asNumeral}
 use Rattle.spelling.proofs.Numerals.{canonical, canonical-test, digits-all, digit-from, is-digit}
 
 -- ---- the digit with which a text begins

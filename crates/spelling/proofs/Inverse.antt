@@ -1,16 +1,16 @@
 -- Both ways that `readAs` is the inverse of `spell`: what is read is spelled so, and what is spelled so is read.
-use Prim.Native.Nat.{ℕ, zero, suc, _+_, _^_, _≤_, _<_}
-use mathlib.Core.Path.{_≡_, refl, sym, ap, ap₂, _∙_, subst}
-use mathlib.Core.Bool.{Bool, true, false, not, _&&_, _||_, false≢true}
+use Prim.Native.Nat.{ℕ, suc, _+_, _^_, _≤_, _<_}
+use mathlib.Core.Path.{_≡_, refl, sym, ap, ap₂, _∙_}
+use mathlib.Core.Bool.{Bool, true, false, not, _&&_, _||_}
 use mathlib.Core.List.{List, [], _∷_, _++_, append-nil}
 use mathlib.Core.Option.{Option, none, some}
 use native.Mathlib.Omega.{arith}
 use borrow.Author.Tests.{leb-true, eqb-true, eqb-false, not-true}
 use lib.Dec.{leb, eqb}
 use lib.ListN.{length}
-use Rattle.spelling.specs.Text.{bytes}
 use Rattle.spelling.specs.Decimal.{decimal, isDigit, digitsOf, pastDigits, valueFrom, sameBytes, isNumeral}
-use Rattle.spelling.specs.Pattern.{isPlace, places, spell, withNumber, readAs}
+use Rattle.spelling.specs.Pattern.{isPlace, spell, withNumber, readAs}
+use Rattle.spelling.specs.Scanning.{places}
 use Rattle.spelling.proofs.Numerals.{both, value-decimal, decimal-nonempty, all-decimal, at-most-digits, decimal-numeral, same-equal, digits-append, digits-then-past}
 use Rattle.spelling.proofs.Patterns.{places-place, spell-place, read-number, read-no-number, places-byte, spell-byte, read-same, read-other, read-short}
 
@@ -135,8 +135,3 @@ spelled-is-read most [] (n ∷ ns) m w l b = absurd (omega arith)
 spelled-is-read most (c ∷ p) ns m w l b =
     let k = both (not (isPlace c) || endsNumber p) (wellFormed p) w in
     spelled-step most c p m (λ ms lm bm. spelled-is-read most p ms m (k .1) lm bm) (isPlace c) refl (k .0) ns l b
-
--- the patterns of job lines and answer lines are of this kind
-rect-well-formed : wellFormed (bytes "(rect # # # #)") ≡ true
-unfolding wellFormed bytes
-rect-well-formed = refl

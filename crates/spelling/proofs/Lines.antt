@@ -1,6 +1,6 @@
 -- The pieces of a file between line feeds, one line after the other.
-use Prim.Native.Nat.{ℕ, zero, suc, _+_, _≤_, _<_}
-use mathlib.Core.Path.{_≡_, refl, sym, ap, _∙_}
+use Prim.Native.Nat.{ℕ, suc, _+_, _≤_, _<_}
+use mathlib.Core.Path.{_≡_, refl, ap, _∙_}
 use mathlib.Core.Bool.{Bool, true, false}
 use mathlib.Core.List.{List, [], _∷_}
 use native.Mathlib.Numerals.{add-one}
@@ -9,7 +9,8 @@ use borrow.Author.Tests.{eq-eqb, ne-eqb}
 use lib.Dec.{eqb}
 use lib.ListN.{length, getD, take, drop, drop-of-length-le}
 use lib.Seq.{drop-cons}
-use Rattle.spelling.specs.Text.{lineLength, inFront, parts}
+use Rattle.spelling.specs.Text.{inFront, parts}
+use Rattle.spelling.specs.Scanning.{lineLength}
 
 module _ (b : ℕ) (s : List ℕ) where
   line-ends : eqb b 10 ≡ true → lineLength (b ∷ s) ≡ 0

@@ -1,13 +1,13 @@
 -- Laws of decimal numbers: a number's spelling and the digits of a text determine each other.
 use Prim.Native.Nat.{ℕ, zero, suc, _+_, _-_, _*_, _/_, _%_, _^_, _≤_, _<_}
 use mathlib.Core.Path.{_≡_, refl, sym, ap, ap₂, _∙_}
-use mathlib.Core.Bool.{Bool, true, false, not, _&&_, false≢true, true≢false}
+use mathlib.Core.Bool.{Bool, true, false, not, _&&_, false≢true}
 use mathlib.Core.List.{List, [], _∷_, _++_, append-assoc, append-nil}
 use mathlib.Core.Logic.{_↔_, _⊎_, inl, inr}
-use native.Mathlib.Nat.{mod-eq-of-lt, le-refl, pow-suc, pow-le-pow-right, le-trans, lt-of-lt-of-le, lt-of-le-of-lt}
+use native.Mathlib.Nat.{mod-eq-of-lt, le-refl, pow-suc, pow-le-pow-right}
 use native.Mathlib.Decide.{decLe}
 use native.Mathlib.Omega.{arith}
-use borrow.Author.Tests.{lt-ltb, le-ltb, le-leb, lt-leb, leb-true, leb-false, eqb-true, eqb-false, eq-eqb, ne-eqb, not-true}
+use borrow.Author.Tests.{lt-ltb, le-ltb, le-leb, leb-true, eqb-true, eqb-false, eq-eqb, ne-eqb, not-true}
 use lib.Dec.{leb, eqb, leb·zero}
 use lib.ListN.{length, getD, drop, length-append, List·getD-append}
 use Rattle.spelling.specs.Decimal.{decimalIn, decimal, isDigit, digitsOf, pastDigits, valueFrom, sameBytes, spells, isNumeral}

@@ -1,14 +1,15 @@
 -- What one byte of a pattern asks, and what it spells.
 use Prim.Native.Nat.{ℕ, zero, suc, _-_}
 use mathlib.Core.Path.{_≡_, refl, sym, ap, _∙_}
-use mathlib.Core.Bool.{Bool, true, false, false≢true, true≢false}
+use mathlib.Core.Bool.{true, false, false≢true, true≢false}
 use mathlib.Core.List.{List, [], _∷_, _++_}
 use mathlib.Core.Option.{Option, none, some}
 use borrow.Author.Tests.{eq-eqb, ne-eqb}
 use lib.ListN.{length, getD, replicate}
 use Rattle.spelling.specs.declared.Reading.{Reading}
 use Rattle.spelling.specs.Decimal.{decimal, digitsOf, pastDigits, valueFrom, isNumeral}
-use Rattle.spelling.specs.Pattern.{isPlace, places, spell, withNumber, readAs, asReading}
+use Rattle.spelling.specs.Pattern.{isPlace, spell, withNumber, readAs}
+use Rattle.spelling.specs.Scanning.{places, asReading}
 use Rattle.spelling.proofs.Numerals.{no-numeral}
 
 module _ (c : ℕ) (p : List ℕ) (e : isPlace c ≡ true) where

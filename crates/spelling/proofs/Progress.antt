@@ -1,5 +1,5 @@
 -- A line read against a pattern, byte by byte of the pattern.
-use Prim.Native.Nat.{ℕ, zero, suc, _+_, _-_, _≤_, _<_}
+use Prim.Native.Nat.{ℕ, suc, _+_, _-_, _≤_, _<_}
 use mathlib.Core.Path.{_≡_, refl, sym, ap, ap₂, _∙_}
 use mathlib.Core.Bool.{Bool, true, false, true≢false}
 use mathlib.Core.List.{List, [], _∷_, _++_, append-assoc, append-nil}
@@ -7,13 +7,13 @@ use mathlib.Core.Option.{Option, none, some}
 use native.Mathlib.Numerals.{add-one}
 use native.Mathlib.Omega.{arith}
 use borrow.Author.Tests.{eq-eqb, ne-eqb}
-use lib.Dec.{eqb}
-use lib.ListN.{length, getD, set, drop, replicate, length-append, length-replicate, length-drop, drop-of-length-le}
-use lib.Seq.{drop-cons, drop-drop, set-append-seam, drop-length}
+use lib.ListN.{length, getD, set, drop, replicate, length-append, length-drop, drop-of-length-le}
+use lib.Seq.{drop-cons, drop-drop, set-append-seam}
 use Rattle.spelling.specs.declared.Numeral.{Numeral}
 use Rattle.spelling.specs.declared.Reading.{Reading}
-use Rattle.spelling.specs.Decimal.{digitsOf, pastDigits, valueFrom, isNumeral, asNumeral}
-use Rattle.spelling.specs.Pattern.{isPlace, places, withNumber, readAs, asReading}
+use Rattle.spelling.specs.Decimal.{digitsOf, pastDigits, valueFrom, isNumeral}
+use Rattle.spelling.specs.Scanning.{places, asReading, asNumeral}
+use Rattle.spelling.specs.Pattern.{isPlace, withNumber, readAs}
 use Rattle.spelling.proofs.Numerals.{past-is-drop}
 use Rattle.spelling.proofs.Digits.{number, no-number, digits-within}
 use Rattle.spelling.proofs.Patterns.{places-place, places-byte, read-number, read-no-number, read-same, read-other, read-short}

@@ -4,7 +4,6 @@ use mathlib.Core.Bool.{Bool, true, false, _&&_}
 use mathlib.Core.List.{List, [], _∷_, _++_}
 use lib.Dec.{leb, ltb, eqb}
 use lib.ListN.{length}
-use Rattle.spelling.specs.declared.Numeral.{Numeral}
 
 -- the digits of n, of which it has at most k + 1
 unfoldable pub decimalIn : (k n : ℕ) → List ℕ
@@ -28,11 +27,6 @@ unfoldable pub pastDigits : List ℕ → List ℕ
 pastDigits [] = []
 pastDigits (b ∷ s) = elim (isDigit b) [ true ↦ pastDigits s | false ↦ b ∷ s ]
 
--- the value of the digit with which a text begins, 10 where it begins with none
-unfoldable pub digitFirst : List ℕ → ℕ
-digitFirst [] = 10
-digitFirst (b ∷ s) = elim (isDigit b) [ true ↦ b - 48 | false ↦ 10 ]
-
 -- the number that digits stand for, a standing before them
 unfoldable pub valueFrom : ℕ → List ℕ → ℕ
 valueFrom a [] = a
@@ -52,11 +46,3 @@ spells ds = sameBytes (decimal (valueFrom 0 ds)) ds
 -- digits are a number's spelling: those of the number that they stand for, and at most `most` of them
 abbrev pub isNumeral : ℕ → List ℕ → Bool
 isNumeral most ds = leb (length ds) most && spells ds
-
--- the number with which a text begins that stands at a place, and the place after it; no number: 0 and the place itself
-abbrev pub asNumeral : (most at : ℕ) → List ℕ → Numeral
-asNumeral most at s =
-    elim (isNumeral most (digitsOf s)) [
-      | true ↦ record { ok = true; value = valueFrom 0 (digitsOf s); next = at + length (digitsOf s) }
-      | false ↦ record { ok = false; value = 0; next = at }
-    ]

@@ -1,22 +1,14 @@
 -- Lines are spelled by patterns: bytes as they stand, and for each # the decimal spelling of the next number.
-use Prim.Native.Nat.{ℕ, suc, _+_, _-_}
-use mathlib.Core.Path.{_≡_}
+use Prim.Native.Nat.{ℕ}
 use mathlib.Core.Bool.{Bool, true, false}
 use mathlib.Core.List.{List, [], _∷_, _++_}
 use mathlib.Core.Option.{Option, none, some}
 use lib.Dec.{eqb}
-use lib.ListN.{length, replicate, take, drop}
-use Rattle.spelling.specs.declared.Reading.{Reading}
 use Rattle.spelling.specs.Decimal.{decimal, digitsOf, pastDigits, valueFrom, isNumeral}
 
 -- the byte #, a place for a number
 abbrev pub isPlace : ℕ → Bool
 isPlace c = eqb c 35
-
--- how many numbers a pattern asks for
-unfoldable pub places : List ℕ → ℕ
-places [] = 0
-places (c ∷ p) = elim (isPlace c) [ true ↦ suc (places p) | false ↦ places p ]
 
 -- the spelling of a pattern with numbers
 unfoldable pub spell : List ℕ → List ℕ → List ℕ
@@ -31,7 +23,7 @@ withNumber n (some ns) = some (n ∷ ns)
 
 -- the numbers with which a line spells a pattern, each of at most `most` digits; none where no numbers do.
 -- proofs/Inverse.antt shows both ways that this is the inverse of `spell`, for patterns in which no # is followed by a digit or another #
--- (`wellFormed`); all patterns of the product are such.
+-- (`wellFormed`); the patterns of the job lines, the only ones that are read, are such.
 unfoldable pub readAs : (most : ℕ) → (pattern line : List ℕ) → Option (List ℕ)
 readAs most [] [] = some []
 readAs most [] (b ∷ s) = none
@@ -45,8 +37,3 @@ readAs most (c ∷ p) (b ∷ s) =
           ]
       | false ↦ elim (eqb b c) [ true ↦ readAs most p s | false ↦ none ]
     ]
-
--- what was read, as the code returns it: the numbers in order, 0 behind them and everywhere where nothing was read
-abbrev pub asReading : Option (List ℕ) → Reading
-asReading none = record { ok = false; count = 0; values = replicate 8 0 }
-asReading (some ns) = record { ok = true; count = length ns; values = ns ++ replicate (8 - length ns) 0 }

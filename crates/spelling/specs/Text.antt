@@ -1,5 +1,5 @@
 -- Quoted text as bytes, so that a definition shows a line as it is written.
-use Prim.Native.Nat.{ℕ, suc}
+use Prim.Native.Nat.{ℕ}
 use Prim.Native.Char.{code}
 use Prim.Native.String.{String, [] as empty, _∷_ as _then_}
 use mathlib.Core.Bool.{true, false}
@@ -19,8 +19,3 @@ inFront b (p ∷ ps) = (b ∷ p) ∷ ps
 unfoldable pub parts : List ℕ → List (List ℕ)
 parts [] = [] ∷ []
 parts (b ∷ s) = elim (eqb b 10) [ true ↦ [] ∷ parts s | false ↦ inFront b (parts s) ]
-
--- the length of the first line: of what stands before the first line feed, or of all where there is none
-unfoldable pub lineLength : List ℕ → ℕ
-lineLength [] = 0
-lineLength (b ∷ s) = elim (eqb b 10) [ true ↦ 0 | false ↦ suc (lineLength s) ]

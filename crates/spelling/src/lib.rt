@@ -2,12 +2,12 @@
 ghost use mathlib.Core.Path.{_≡_};
 ghost use mathlib.Core.Bool.{false, _&&_};
 ghost use mathlib.Core.Option.{none};
-ghost use Prim.Native.Nat.{ℕ, _+_, _≤_, _<_};
+ghost use Prim.Native.Nat.{_+_, _≤_, _<_};
 ghost use lib.Dec.{ltb};
 ghost use lib.ListN.{length, drop};
-ghost use Rattle.spelling.specs.Text.{lineLength};
-ghost use Rattle.spelling.specs.Decimal.{decimal, digitsOf, digitFirst, spells, asNumeral};
-ghost use Rattle.spelling.specs.Pattern.{isPlace, places, spell, readAs, asReading};
+ghost use Rattle.spelling.specs.Scanning.{places, asReading, digitFirst, asNumeral, lineLength};
+ghost use Rattle.spelling.specs.Decimal.{decimal, digitsOf, spells};
+ghost use Rattle.spelling.specs.Pattern.{isPlace, spell, readAs};
 ghost use Rattle.buffers.specs.Written.{Written};
 
 // What reading a line against a pattern gives: whether the line is the

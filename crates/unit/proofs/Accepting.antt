@@ -10,7 +10,8 @@ use Rattle.geometry.specs.Layout.{rectsOf}
 use Rattle.jobfile.specs.declared.Job.{Job}
 use Rattle.jobfile.specs.Forms.{tileSide, tilesAcross, formOf}
 use Rattle.jobfile.specs.Faults.{Standing, lineFault}
-use Rattle.jobfile.specs.File.{Outcome, refused, accepted, outcomeOf, asJob, tableOf, padded}
+use Rattle.jobfile.specs.File.{Outcome, refused, accepted, outcomeOf}
+use Rattle.jobfile.specs.Held.{asJob, tableOf, padded}
 use Rattle.jobfile.proofs.Tables.{length-table, rects-of-table}
 use Rattle.jobfile.proofs.Files.{Comes, ends, faulty, unfed, unended, Faulty, long, lines, refused-as}
 use Rattle.jobfile.proofs.Accepted.{AcceptedFacts, accepted-facts, padded-front, table-front, amount-room}
@@ -30,6 +31,7 @@ facts-run st f =
     record {
       some-window = h .window-least;
       window-fits = h .window-most;
+      some-level = h .levels-least;
       some-tile = h .side-least;
       window-tiles = h .window-tiles;
       layout-tiles = h .size-tiles;

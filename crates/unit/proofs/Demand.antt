@@ -16,13 +16,13 @@ use Rattle.extremes.proofs.Promises.{OverAll, extreme-over-all}
 use Rattle.zoom.specs.declared.End.{End}
 use Rattle.zoom.specs.declared.End.the-variants.{Met, Stopped, Exact}
 use Rattle.zoom.specs.Run.{endNumber, quickRun}
-use Rattle.zoom.proofs.Bracket.{Accurate, quick-run-promises}
+use Rattle.zoom.proofs.Bracket.{Accurate, quick-run-promises, levels-at-most}
 use Rattle.fill.specs.declared.Bound.{Bound}
 use Rattle.fill.specs.declared.Bound.the-variants.{Over, Under}
 use Rattle.fill.specs.declared.Verdict.{Verdict}
 use Rattle.fill.specs.declared.Verdict.the-variants.{Safe, Broken, Undecided}
 use Rattle.fill.specs.Eligible.{tile, fillableArea}
-use Rattle.fill.specs.Judge.{amountAt, boundNumber, verdictNumbers, verdictOf}
+use Rattle.fill.specs.Judge.{numberAt, boundNumber, verdictNumbers, verdictOf}
 use Rattle.fill.specs.Placement.{Placement, placedSum, keeps}
 use Rattle.fill.proofs.Promise.{safe-keeps, broken-breaks}
 use Rattle.fill.proofs.Placing.{placement}
@@ -35,12 +35,13 @@ use Rattle.unit.specs.Promise.{Position, RealWindow, Earliest, areaAt, d
 pub record Runs (st : Standing) : Type 0 where
   pub some-window : 1 ≤ st .head .window
   pub window-fits : st .head .window ≤ st .head .size
+  pub some-level : 1 ≤ st .head .levels
   pub some-tile : 1 ≤ tileSide (st .head)
   pub window-tiles : st .head .window ≡ st .head .cut * tileSide (st .head)
   pub layout-tiles : st .head .size ≡ tilesAcross (st .head) * tileSide (st .head)
   pub cut-fits : st .head .cut ≤ tilesAcross (st .head)
   pub amounts-fit : (i j : ℕ) → i < tilesAcross (st .head) → j < tilesAcross (st .head) →
-      amountAt (st .amounts) (tilesAcross (st .head)) i j ≤ fillableArea (st .head .gap) (st .shapes) (tile (tileSide (st .head)) i j)
+      numberAt (st .amounts) (tilesAcross (st .head)) i j ≤ fillableArea (st .head .gap) (st .shapes) (tile (tileSide (st .head)) i j)
 
 -- ---- a number tells the case
 
@@ -112,6 +113,7 @@ quick-kept st r =
       floor-below = p .brackets .low;
       ceiling-above = p .brackets .high;
       met = λ e. midpoint (h .accuracy) (extreme Greatest (st .shapes) (h .size) (h .window) .area) (q .last .window .area) (q .last .far) (p .accurate (number-met (q .end) e));
+      levels-done = levels-at-most Greatest (st .shapes) (h .size) (h .window) (h .accuracy) (h .levels) (r .some-level);
     }
 
 -- ---- the fill, over the window's and the layout's own sides

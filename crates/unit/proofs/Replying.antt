@@ -1,24 +1,25 @@
 -- From what rendering leaves to the reply and the buffer.
 use Prim.Native.Nat.{ℕ, zero, suc, _+_, _*_, _≤_, _<_}
 use mathlib.Core.Path.{_≡_, refl, sym, ap, _∙_, subst, subst⁻¹}
-use mathlib.Core.Bool.{Bool, true, false, _&&_}
+use mathlib.Core.Bool.{Bool, true, false, not, _&&_}
 use mathlib.Core.List.{List, [], _∷_, _++_}
 use native.Mathlib.Nat.{zero-add}
 use native.Mathlib.Omega.{arith}
 use borrow.Author.Tests.{le-leb, lt-leb, leb-true}
 use lib.Dec.{leb, ltb, eqb, lit≤}
-use lib.ListN.{length, take, drop, getD, length-append}
+use lib.ListN.{length, take, drop, length-append}
 use lib.Seq.{take-at, length-take-le}
-use Rattle.geometry.specs.Layout.{coveredArea}
+use Rattle.geometry.specs.Layout.{sharesSquare}
 use Rattle.buffers.specs.Written.{Front}
 use Rattle.fill.specs.Eligible.{tile, fillableArea}
+use Rattle.fill.specs.Judge.{numberAt}
 use Rattle.spelling.specs.Text.{bytes}
 use Rattle.spelling.specs.Pattern.{spell}
 use Rattle.jobfile.specs.declared.Form.{Form}
-use Rattle.jobfile.specs.declared.Form.the-variants.{Unknown, Start, Shape, Fill, End}
+use Rattle.jobfile.specs.declared.Form.the-variants.{Unknown, Heading, Shape, Fill, End}
 use Rattle.jobfile.specs.Limits.{mostShapes}
 use Rattle.jobfile.specs.Forms.{formOf, inRange, tileSide, tilesAcross, agrees}
-use Rattle.jobfile.specs.Faults.{Standing, nothing, unless, inTurn, tileIndex, fitsLayout, known, ownFault, shapeFault, fillFault, lineFault}
+use Rattle.jobfile.specs.Faults.{Standing, nothing, unless, inTurn, fitsLayout, known, ownFault, shapeFault, fillFault, lineFault}
 use Rattle.jobfile.specs.File.{Outcome, refused, accepted, outcomeOf}
 use Rattle.jobfile.proofs.Spelled.{spellingOf}
 use Rattle.jobfile.proofs.Files.{Comes, ends, faulty, unfed, unended, Faulty, long, lines, refused-as}
@@ -117,12 +118,12 @@ three-small p q r a b c h k l = most-unless 12 p a (unless q b (unless r c 0)) h
 own-small : (st : Standing) (f : Form) → ownFault st f ≤ 12
 unfolding shapeFault fillFault
 own-small st Unknown = lit≤ tt
-own-small st (Start h) = most-unless 12 (agrees h) 5 0 (lit≤ tt) (lit≤ tt)
+own-small st (Heading h) = most-unless 12 (agrees h) 5 0 (lit≤ tt) (lit≤ tt)
 own-small st (Shape r) =
-    three-small (fitsLayout (st .head) r) (ltb (length (st .shapes)) mostShapes) (eqb (coveredArea (st .shapes) r) 0) 6 8 9 (lit≤ tt) (lit≤ tt) (lit≤ tt)
+    three-small (fitsLayout (st .head) r) (ltb (length (st .shapes)) mostShapes) (not (sharesSquare (st .shapes) r)) 6 8 9 (lit≤ tt) (lit≤ tt) (lit≤ tt)
 own-small st (Fill i j p) =
     let h = st .head in
-    three-small (ltb i (tilesAcross h) && ltb j (tilesAcross h)) (eqb (getD (st .amounts) (tileIndex h i j) 0) 0)
+    three-small (ltb i (tilesAcross h) && ltb j (tilesAcross h)) (eqb (numberAt (st .amounts) (tilesAcross h) i j) 0)
     (leb p (fillableArea (h .gap) (st .shapes) (tile (tileSide h) i j))) 7 10 11 (lit≤ tt) (lit≤ tt) (lit≤ tt)
 own-small st End = lit≤ tt
 

@@ -2,7 +2,7 @@
 use Prim.Native.Nat.{ℕ}
 use mathlib.Core.List.{List, [], _∷_, _++_}
 use Rattle.geometry.specs.declared.Sense.the-variants.{Greatest}
-use Rattle.geometry.specs.Cases.{spotNumbers}
+use Rattle.geometry.specs.Extreme.{spotNumbers}
 use Rattle.extremes.specs.declared.Extremes.{Extremes}
 use Rattle.extremes.specs.Exact.{exactRun}
 use Rattle.zoom.specs.declared.End.{End}

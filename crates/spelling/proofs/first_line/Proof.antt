@@ -1,10 +1,10 @@
 -- The invariant: with the first line's length from i on, i is the first line's length.
-use Prim.Native.Nat.{ℕ, _+_, _≤_, _-_}
+use Prim.Native.Nat.{_+_, _≤_, _-_}
 use mathlib.Core.Path.{_≡_}
 use native.Mathlib.Nat.{zero-add}
 use borrow.Author.Needs.{needs}
 use lib.ListN.{length, drop}
-use Rattle.spelling.specs.Text.{lineLength}
+use Rattle.spelling.specs.Scanning.{lineLength}
 use Rattle.spelling.proofs.Lines.{found-feed, no-feed-yet, no-feed}
 use Rattle.spelling.proofs.first_line.Statement.{statement}
 use Rattle.spelling.proofs.first_line.Tie as tie

@@ -1,5 +1,5 @@
 -- The invariant: what the rest of the pattern spells with the numbers left, written where the loop has come to, makes the whole.
-use Prim.Native.Nat.{_+_, _-_, _*_, _<_, _≤_}
+use Prim.Native.Nat.{_-_, _<_}
 use native.Mathlib.Omega.{arith}
 use borrow.Author.Needs.{needs}
 use lib.ListN.{length}

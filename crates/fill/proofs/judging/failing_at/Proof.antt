@@ -1,7 +1,7 @@
 -- `fill::judging::failing_at` meets its contract: both boxes of tiles lie in the layout, so that their loads are light. Assumes nothing.
 use Prim.Native.Nat.{_≤_}
 use borrow.Author.Needs.{needs}
-use Rattle.fill.specs.Windows.{cellOf}
+use Rattle.fill.specs.Judge.{numberAt}
 use Rattle.fill.proofs.Windows.{over-inside, under-inside, load-light, start-judged}
 use Rattle.fill.proofs.judging.failing_at.Statement.{statement}
 use Rattle.fill.proofs.judging.failing_at.Tie as tie
@@ -30,7 +30,7 @@ failed-requires c κs =
 returns : tie.Need-returns
 returns c =
     let a = c .before .before .before .before .before .before .args in
-    start-judged (cellOf (a .loads .now) (a .rule .n)) (a .rule .n) (a .rule .r) (a .rule .low) (a .rule .high) (a .margin) (a .i) (a .j)
+    start-judged (numberAt (a .loads .now) (a .rule .n)) (a .rule .n) (a .rule .r) (a .rule .low) (a .rule .high) (a .margin) (a .i) (a .j)
     (c .before .before .before .tiles-load .result) (c .before .tiles-load2 .result) (c .before .before .before .before .over-tiles .result)
     (c .before .before .under-tiles .result) (c .failed .result) (c .before .before .before .before .over-tiles .ensures)
     (c .before .before .under-tiles .ensures) (c .before .before .before .tiles-load .ensures) (c .before .tiles-load2 .ensures) (c .failed .ensures)

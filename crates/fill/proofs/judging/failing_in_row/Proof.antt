@@ -4,7 +4,8 @@ use Prim.Native.Nat.{_+_, _-_}
 use mathlib.Core.Path.{_∙_, sym}
 use native.Mathlib.Omega.{arith}
 use borrow.Author.Needs.{needs}
-use Rattle.fill.specs.Windows.{cellOf, failingBy}
+use Rattle.fill.specs.Windows.{failingBy}
+use Rattle.fill.specs.Judge.{numberAt}
 use Rattle.fill.proofs.Starts.{row-first}
 use Rattle.fill.proofs.Windows.{Searched, search-start, search-next, search-found, search-end}
 use Rattle.fill.proofs.judging.failing_in_row.Statement.{statement}
@@ -12,7 +13,7 @@ use Rattle.fill.proofs.judging.failing_in_row.Tie as tie
 
 abbrev Inv-loop : tie.InvT-loop
 Inv-loop loads rule margin j last i₀ i =
-    Searched (λ x. failingBy (cellOf loads (rule .n)) (rule .n) (rule .r) (rule .low) (rule .high) margin x j) last i
+    Searched (λ x. failingBy (numberAt loads (rule .n)) (rule .n) (rule .r) (rule .low) (rule .high) margin x j) last i
 
 abbrev μ-loop : tie.MeasureT-loop
 μ-loop loads rule margin j last i₀ i = last + 1 - i

@@ -4,8 +4,8 @@ use Prim.Native.Nat.{suc, _+_, _-_}
 use mathlib.Core.Path.{_∙_, sym}
 use native.Mathlib.Omega.{arith}
 use borrow.Author.Needs.{needs}
-use Rattle.fill.specs.Judge.{failingInRow}
-use Rattle.fill.specs.Windows.{cellOf, failingBy}
+use Rattle.fill.specs.Judge.{numberAt, failingInRow}
+use Rattle.fill.specs.Windows.{failingBy}
 use Rattle.fill.proofs.Starts.{rows-first}
 use Rattle.fill.proofs.Windows.{Searched, search-start, search-next, search-found, search-end}
 use Rattle.fill.proofs.judging.first_failing.Statement.{statement}
@@ -13,7 +13,7 @@ use Rattle.fill.proofs.judging.first_failing.Tie as tie
 
 abbrev Inv-loop : tie.InvT-loop
 Inv-loop loads rule margin last j₀ j =
-    Searched (λ y. failingInRow (failingBy (cellOf loads (rule .n)) (rule .n) (rule .r) (rule .low) (rule .high) margin) y (suc (rule .n - rule .r))) last j
+    Searched (λ y. failingInRow (failingBy (numberAt loads (rule .n)) (rule .n) (rule .r) (rule .low) (rule .high) margin) y (suc (rule .n - rule .r))) last j
 
 abbrev μ-loop : tie.MeasureT-loop
 μ-loop loads rule margin last j₀ j = last + 1 - j

@@ -6,13 +6,13 @@ use native.Mathlib.Nat.{zero-add}
 use native.Mathlib.Omega.{arith}
 use borrow.Author.Needs.{needs}
 use Rattle.geometry.specs.Count.{span}
-use Rattle.fill.specs.Windows.{cellOf}
+use Rattle.fill.specs.Judge.{numberAt}
 use Rattle.fill.proofs.Windows.{span-next, span-end, span-room, row-light}
 use Rattle.fill.proofs.judging.row_load.Statement.{statement}
 use Rattle.fill.proofs.judging.row_load.Tie as tie
 
 abbrev Inv-loop : tie.InvT-loop
-Inv-loop loads n j x1 x2 total₀ i₀ total i = total + span i x2 (λ v. cellOf loads n v j) ≡ span x1 x2 (λ v. cellOf loads n v j)
+Inv-loop loads n j x1 x2 total₀ i₀ total i = total + span i x2 (λ v. numberAt loads n v j) ≡ span x1 x2 (λ v. numberAt loads n v j)
 
 abbrev μ-loop : tie.MeasureT-loop
 μ-loop loads n j x1 x2 total₀ i₀ total i = x2 - i
@@ -24,7 +24,7 @@ add-total c =
     let at = c .before .before .loop in
     omega (
       arith,
-      span-room (λ v. cellOf (a .loads .now) (a .n) v (a .j)) (a .x1) (a .x2) (at .total) (at .i) (c .cell .result) 1125899906842624 (at .inv)
+      span-room (λ v. numberAt (a .loads .now) (a .n) v (a .j)) (a .x1) (a .x2) (at .total) (at .i) (c .cell .result) 1125899906842624 (at .inv)
           (c .before .loop-test .taken) (c .cell .ensures) (row-light (a .loads .now) (a .n) (a .j) (a .x1) (a .x2) (s .pre .1) (s .pre .0 .0) (s .pre .0 .1)),
     )
 
@@ -32,14 +32,14 @@ loop-again : tie.Need-loop-again Inv-loop μ-loop
 loop-again c =
     let a = c .before .before .before .before .args in
     let at = c .before .before .loop in
-    span-next (λ v. cellOf (a .loads .now) (a .n) v (a .j)) (a .x1) (a .x2) (at .total) (at .i) (c .cell .result) (at .inv) (c .before .loop-test .taken)
+    span-next (λ v. numberAt (a .loads .now) (a .n) v (a .j)) (a .x1) (a .x2) (at .total) (at .i) (c .cell .result) (at .inv) (c .before .loop-test .taken)
     (c .cell .ensures)
 
 returns : tie.Need-returns Inv-loop μ-loop
 returns c =
     let a = c .before .before .before .args in
     let at = c .before .loop in
-    span-end (λ v. cellOf (a .loads .now) (a .n) v (a .j)) (a .x1) (a .x2) (at .total) (at .i) (at .inv) (c .loop-test .left)
+    span-end (λ v. numberAt (a .loads .now) (a .n) v (a .j)) (a .x1) (a .x2) (at .total) (at .i) (at .inv) (c .loop-test .left)
 
 pub row-load-spec : {M : Type 1} → statement M
 row-load-spec =

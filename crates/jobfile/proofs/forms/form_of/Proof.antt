@@ -3,9 +3,9 @@ use borrow.Author.Needs.{needs}
 use denote.Ref.{now}
 use lib.Dec.{lit≤}
 use Rattle.spelling.specs.Text.{bytes}
-use Rattle.spelling.specs.Pattern.{places}
+use Rattle.spelling.specs.Scanning.{places}
 use Rattle.jobfile.specs.Forms.{headPattern, rectPattern, fillPattern, endPattern}
-use Rattle.jobfile.proofs.Reading.{form-start, form-shape, form-fill, form-end, form-unknown}
+use Rattle.jobfile.proofs.Reading.{form-heading, form-shape, form-fill, form-end, form-unknown}
 use Rattle.jobfile.proofs.forms.form_of.Statement.{statement}
 use Rattle.jobfile.proofs.forms.form_of.Tie as tie
 
@@ -13,7 +13,7 @@ returns : tie.Need-returns
 unfolding bytes headPattern
 returns c =
     let head = c .before .before .before in
-    form-start (now (head .before .before .before .args .line)) _ (head .read-as .ensures) _ (c .before .before .if1 .taken) (c .start-form .ensures)
+    form-heading (now (head .before .before .before .args .line)) _ (head .read-as .ensures) _ (c .before .before .if1 .taken) (c .heading-form .ensures)
 
 returns-2 : tie.Need-returns-2
 unfolding bytes headPattern rectPattern
