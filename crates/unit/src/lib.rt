@@ -10,7 +10,7 @@ use text::write_word;
 ghost use Prim.Native.Nat.{_≤_};
 ghost use mathlib.Core.Path.{_≡_};
 ghost use lib.ListN.{length};
-ghost use Rattle.buffers.specs.Written.{atFront};
+ghost use Rattle.buffers.specs.Written.{Front};
 ghost use Rattle.unit.specs.Whole.{replyFor, bufferFor, printedFor, replyNumber, replyValue, codeOf};
 
 // What the unit replies: the answer's length, or the number and line of the
@@ -44,8 +44,7 @@ pub fn answer(file: &[u8], out: &mut [u8]) -> Reply
 // What the program prints for a file, at the front of a buffer that always
 // holds it: with 20 digits to each number no answer is longer than 464 bytes.
 pub fn report(file: &[u8], out: &mut [u8; 464]) -> usize
-    ensures length { λ r. ⌜ r ≡ length (printedFor (now (file .entry))) ⌝ }
-    ensures buffer { λ r. ⌜ now (out .exit) ≡ atFront (printedFor (now (file .entry))) (now (out .entry)) ⌝ }
+    ensures { λ r. ⌜ Front (now (out .entry)) (printedFor (now (file .entry))) (now (out .exit)) r ⌝ }
 {
     let done = render(file, out);
     let fault = done.fault;

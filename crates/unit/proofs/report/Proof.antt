@@ -10,8 +10,7 @@ returns : tie.Need-returns
 returns c =
     let s = c .before .before .before .before in
     let d = c .before .render in
-    let f = printed-answer (s .args .file .now) (s .args .out .now) (d .last .1 .0) (d .result) (d .ensures) (c .if1 .taken) (s .args .out .now) in
-    (f .count, f .kept)
+    printed-answer (s .args .file .now) (s .args .out .now) (d .last .1 .0) (d .result) (d .ensures) (c .if1 .taken) (s .args .out .now)
 
 write-line-requires : tie.Need-write-line-requires
 write-line-requires c κs = search needs
@@ -21,10 +20,8 @@ unfolding bytes
 returns-2 c =
     let s = c .before .before .before .before .before .before .before .before in
     let d = c .before .before .before .before .before .render in
-    let f =
     printed-refusal (s .args .file .now) (s .args .out .now) (d .last .1 .0) (d .result) (d .ensures) (c .before .before .before .before .if1 .left) _ _
-    (in-room (lit≤ tt) (c .write-line .ensures)) in
-    (f .count, f .kept)
+    (in-room (lit≤ tt) (c .write-line .ensures))
 
 pub report-spec : {M : Type 1} → statement M
 report-spec = tie.close (tie.spec (λ c κs. search needs) returns (λ c. search needs) (λ c. search needs) write-line-requires returns-2)
