@@ -212,6 +212,13 @@ module _ (s : Sense) (rs : List Rect) (n w : ℕ) (p : 1 ≤ w) where
   pub level-brackets : (j : ℕ) → j ≤ lastLevel w → w ≤ n → Brackets s rs n w (levelAt s rs n w j)
   level-brackets j h l = each-level (Brackets s rs n w) j h (λ b q a. brackets-of s rs n w (levelTile w j) b q l a)
 
+  -- in the exact level that follows it, F = M
+  pub exact-floor : (j : ℕ) → j ≤ lastLevel w → w ≤ n →
+      exactEnd s j (levelAt s rs n w j .window) (extreme s rs n w) .last .window .area ≡ extreme s rs n w .area
+  exact-floor j h l =
+      replaced-area s (levelAt s rs n w j .window) (extreme s rs n w)
+      (placed-no-better s rs n w (levelAt s rs n w j .window) (level-brackets j h l .window))
+
   -- from level j to the next F never falls and C never rises
   pub level-narrows : (j : ℕ) → j < lastLevel w → Narrows s (levelAt s rs n w j) (levelAt s rs n w (suc j))
   level-narrows j h = narrows s (levelAt s rs n w j) (levelAt s rs n w (suc j)) keeps lowers

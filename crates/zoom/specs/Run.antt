@@ -93,7 +93,8 @@ afterLevel s e v j this next =
       | false ↦ elim (leb v (suc j)) [ true ↦ record { end = Stopped; levels = suc j; last = this } | false ↦ next ]
     ]
 
--- the exact search as one more level after level j: F = C = M, its window m replaces the named one only if M is better, kept is 0
+-- the exact search counts as one more level after level j: C is M, no start is kept, and its window m is named only where strictly better.
+-- F is M too: `exact-floor` in proofs/Bracket.antt
 abbrev pub exactEnd : Sense → (j : ℕ) → (before m : Spot) → Quick
 exactEnd s j before m = record { end = Exact; levels = suc (suc j); last = record { window = replaced s before m; far = m .area; kept = 0 } }
 
