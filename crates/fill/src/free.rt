@@ -99,8 +99,16 @@ fn free_around(rects: &[u64], gap: u64, at: usize, b: Rect, m: Rect) -> u64
     ensures { λ r. ⌜ r ≡ aroundFrom gap (now (rects .entry)) at b m ⌝ }
 {
     let below = Rect { y2: m.y1, ..b };
-    let left = Rect { x1: b.x1, x2: m.x1, ..m };
-    let right = Rect { x1: m.x2, x2: b.x2, ..m };
+    let left = Rect {
+        x1: b.x1,
+        x2: m.x1,
+        ..m
+    };
+    let right = Rect {
+        x1: m.x2,
+        x2: b.x2,
+        ..m
+    };
     let above = Rect { y1: m.y2, ..b };
     let p = free_from(rects, gap, at, below);
     let q = free_from(rects, gap, at, left);

@@ -14,10 +14,10 @@ use Rattle.geometry.specs.declared.Rect.{Rect}
 use Rattle.geometry.specs.Layout.{Disjoint, Drawn}
 use Rattle.geometry.proofs.Counting.{le-or-lt}
 use Rattle.fill.specs.Eligible.{tile, fillableArea}
+use Rattle.fill.specs.Judge.{numberAt}
 use Rattle.fill.specs.Free.{grownAll}
 use Rattle.fill.proofs.Grown.{fillable-grown, free-small}
 use Rattle.spelling.proofs.Numerals.{both}
-use Rattle.fill.specs.Judge.{numberAt}
 use Rattle.jobfile.specs.declared.Head.{Head}
 use Rattle.jobfile.specs.declared.Form.{Form}
 use Rattle.jobfile.specs.declared.Turn.the-variants.{Before}

@@ -13,8 +13,8 @@ use borrow.Author.Tests.{lt-ltb, le-ltb, le-leb, lt-leb, eq-eqb, ne-eqb}
 use Rattle.geometry.specs.declared.Rect.{Rect}
 use Rattle.geometry.specs.Layout.{rectsOf, sharesSquare, Drawn}
 use Rattle.fill.specs.Eligible.{tile, fillableArea}
-use Rattle.fill.specs.Limits.{Small}
 use Rattle.fill.specs.Judge.{tileIndex, numberAt}
+use Rattle.fill.specs.Limits.{Small}
 use Rattle.jobfile.specs.declared.Head.{Head}
 use Rattle.jobfile.specs.declared.Form.{Form}
 use Rattle.jobfile.specs.declared.Form.the-variants.{Unknown, Heading, Shape, Fill, End}

@@ -15,8 +15,8 @@ use Rattle.geometry.specs.Layout.{sharesSquare, Disjoint}
 use Rattle.geometry.proofs.Sharing.{shares-none}
 use Rattle.geometry.proofs.Tables.{disjoint-more}
 use Rattle.fill.specs.Eligible.{tile, fillableArea}
-use Rattle.spelling.proofs.Numerals.{both}
 use Rattle.fill.specs.Judge.{tileIndex, numberAt}
+use Rattle.spelling.proofs.Numerals.{both}
 use Rattle.jobfile.specs.declared.Head.{Head}
 use Rattle.jobfile.specs.declared.Form.{Form}
 use Rattle.jobfile.specs.declared.Form.the-variants.{Unknown, Heading, Shape, Fill, End}

@@ -37,6 +37,7 @@ rankOf (Shape r) = 2
 rankOf (Fill i j p) = 3
 rankOf End = 4
 
+-- whether a line is one of the spellings
 abbrev pub known : Form → Bool
 known f = ltb 0 (rankOf f)
 
