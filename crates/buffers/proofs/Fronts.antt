@@ -3,9 +3,9 @@ use Prim.Native.Nat.{ℕ, _+_, _-_, _≤_}
 use mathlib.Core.Path.{_≡_, refl, sym, ap, ap₂, _∙_}
 use mathlib.Core.List.{List, [], _++_, append-nil, append-assoc}
 use native.Mathlib.Omega.{arith}
-use lib.ListN.{length, take, drop, length-append, length-drop, take-append-drop}
+use lib.ListN.{length, take, drop, length-append, take-append-drop}
 use lib.Seq.{take-at, drop-at, drop-append-add, drop-drop, length-take-le}
-use Rattle.buffers.specs.Written.{written, Written, Front}
+use Rattle.buffers.specs.Written.{Written, Front}
 use Rattle.buffers.proofs.Writing.{written-length}
 
 -- ---- what is at the front

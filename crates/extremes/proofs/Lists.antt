@@ -7,8 +7,8 @@ use native.Mathlib.Nat.{add-zero, le-of-lt, le-trans}
 use native.Mathlib.Numerals.{add-one}
 use native.Mathlib.Omega.{arith}
 use lib.Dec.{leb}
-use lib.ListN.{length, getD, take, drop, set, length-append, length-set, take-append-drop, drop-of-length-le}
-use lib.Seq.{drop-cons, take-at, drop-append-add, drop-drop, length-take-le, set-split, append-snoc}
+use lib.ListN.{length, getD, take, drop, set, length-append, length-set, drop-of-length-le}
+use lib.Seq.{drop-cons, length-take-le, set-split, append-snoc}
 use borrow.Author.Tests.{le-leb, lt-leb, eq-eqb, ne-eqb}
 use Rattle.geometry.specs.declared.Rect.{Rect}
 use Rattle.geometry.specs.declared.Sense.{Sense}

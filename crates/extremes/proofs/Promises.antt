@@ -6,9 +6,8 @@ use mathlib.Core.List.{List}
 use Rattle.geometry.specs.declared.Rect.{Rect}
 use Rattle.geometry.specs.declared.Spot.{Spot}
 use Rattle.geometry.specs.declared.Sense.{Sense}
-use Rattle.geometry.specs.declared.Sense.the-variants.{Greatest, Least}
 use Rattle.geometry.proofs.Extremes.{NoLater}
-use Rattle.extremes.specs.Exact.{windowArea, extreme, exactRun}
+use Rattle.extremes.specs.Exact.{windowArea, extreme}
 use Rattle.extremes.proofs.Candidates.{NoBetter}
 use Rattle.extremes.proofs.Searches.{not-better, position, extreme-best, x-in, y-in}
 
@@ -30,11 +29,3 @@ extreme-over-all s rs n w =
       none-better = λ x y h k. not-better s _ _ (extreme-best s rs n w .none-better x y (position n w x y h k));
       first = λ x y h k. extreme-best s rs n w .first x y (position n w x y h k);
     }
-
--- the exact run: M and the minimum
-pub record ExactPromise (rs : List Rect) (n w : ℕ) : Type 0 where
-  pub greatest : OverAll Greatest rs n w (exactRun rs n w .greatest)
-  pub least : OverAll Least rs n w (exactRun rs n w .least)
-
-pub exact-promise : (rs : List Rect) (n w : ℕ) → ExactPromise rs n w
-exact-promise rs n w = record { greatest = extreme-over-all Greatest rs n w; least = extreme-over-all Least rs n w }

@@ -19,13 +19,12 @@ use Rattle.fill.specs.declared.Failing.{Failing}
 use Rattle.fill.specs.declared.Failing.the-variants.{Nowhere, At}
 use Rattle.fill.specs.declared.Verdict.{Verdict}
 use Rattle.fill.specs.declared.Verdict.the-variants.{Broken}
-use Rattle.fill.specs.Eligible.{tile, fillableArea}
+use Rattle.fill.specs.Eligible.{tile}
 use Rattle.fill.specs.Judge.{numberAt, load, standardTiles, bloatedTiles, shrunkTiles, failingAt, standardFailing, marginFailing, judged, verdictOf}
 use Rattle.fill.specs.Windows.{overTiles, underTiles, failingWithin, failingBy, searchBy, Loads, Filled}
 use Rattle.fill.specs.Limits.{Tiled}
 use Rattle.fill.proofs.Starts.{below-or-last, rows-cong}
 use Rattle.fill.proofs.Cutting.{same-box}
-use Rattle.fill.proofs.Grown.{fillable-small}
 
 -- ---- a table that is filled from the front
 
@@ -76,10 +75,6 @@ tile-side d i = omega (arith, suc-mul i d)
 
 tile-small : (rs : List Rect) (d i j : ℕ) → coveredArea rs (tile d i j) ≤ d * d
 tile-small rs d i j = omega (arith, area-small rs (tile d i j), ap₂ _*_ (tile-side d i) (tile-side d j))
-
--- a tile takes no more fill than its area, so an amount that fits its tile meets `Tiled`
-pub tile-fillable : (g : ℕ) (rs : List Rect) (d i j : ℕ) → fillableArea g rs (tile d i j) ≤ d * d
-tile-fillable g rs d i j = omega (arith, fillable-small g rs (tile d i j), ap₂ _*_ (tile-side d i) (tile-side d j))
 
 pub load-formed : (rs : List Rect) (amounts : List ℕ) (n d t v : ℕ) (b : Rect) → b ≡ tile d (t % n) (t / n) → v ≡ coveredArea rs b →
     v + getD amounts t 0 ≡ load rs amounts n d (t % n) (t / n)

@@ -59,12 +59,6 @@ unfolding sum
 sum-split n zero f = ap (λ (k : ℕ). sum k f) (add-zero n) ∙ sym (add-zero (sum n f))
 sum-split n (suc m) f = ap (λ (k : ℕ). sum k f) (add-suc n m) ∙ ap (λ (k : ℕ). k + f (n + m)) (sum-split n m f) ∙ add-assoc _ _ _
 
--- the first number split off
-pub sum-first : (n : ℕ) (f : ℕ → ℕ) → sum (suc n) f ≡ f 0 + sum n (λ i. f (suc i))
-unfolding sum
-sum-first zero f = omega arith
-sum-first (suc n) f = omega (arith, sum-first n f)
-
 -- the axes may change places
 pub sum-swap : (n m : ℕ) (f : ℕ → ℕ → ℕ) → sum n (λ i. sum m (λ j. f i j)) ≡ sum m (λ j. sum n (λ i. f i j))
 unfolding sum

@@ -162,34 +162,6 @@ best-of-fewer s f few all r sub d h =
         (true-false (better s (f x′ y′) (r .area)) (ap (λ (a : ℕ). better s (f x′ y′) a) (sym e) ∙ k) (h .none-better x′ y′ w))
     early x y e (x′, y′, w, inr k) = no-later-trans (r .x) (r .y) x′ y′ x y (h .first x′ y′ w (k .0 ∙ e)) (k .1)
 
--- where b stood before, a position that is not better than b may be passed over
-pub best-after-fewer : (s : Sense) (f : ℕ → ℕ → ℕ) (few all : ℕ → ℕ → Type 0) (b r : Spot) → ((x y : ℕ) → few x y → all x y) →
-    ((x y : ℕ) → all x y → few x y ⊎ (better s (f x y) (b .area) ≡ false)) → BestAfter s f few b r → BestAfter s f all b r
-best-after-fewer s f few all b r sub d (inl h) = inl (h .0, λ x y a. go x y (d x y a))
-  where
-    go : (x y : ℕ) → few x y ⊎ (better s (f x y) (b .area) ≡ false) → better s (f x y) (b .area) ≡ false
-    go x y (inl w) = h .1 x y w
-    go x y (inr e) = e
-best-after-fewer s f few all b r sub d (inr h) =
-    inr (
-      record {
-        was-seen = sub (r .x) (r .y) (h .0 .was-seen);
-        area-is = h .0 .area-is;
-        none-better = λ x y a. none x y (d x y a);
-        first = λ x y a e. early x y e (d x y a);
-      },
-      h .1,
-    )
-  where
-    none : (x y : ℕ) → few x y ⊎ (better s (f x y) (b .area) ≡ false) → better s (f x y) (r .area) ≡ false
-    none x y (inl w) = h .0 .none-better x y w
-    none x y (inr e) = better-not s (r .area) (f x y) (better-between s (f x y) (b .area) (r .area) e (h .1))
-
-    early : (x y : ℕ) → f x y ≡ r .area → few x y ⊎ (better s (f x y) (b .area) ≡ false) → NoLater (r .x) (r .y) x y
-    early x y e (inl w) = h .0 .first x y w e
-    early x y e (inr q) =
-        absurd (true-false (better s (r .area) (b .area)) (h .1) (ap (λ (a : ℕ). better s a (b .area)) (sym e) ∙ q))
-
 -- the same positions in other words
 pub best-same : (s : Sense) (f : ℕ → ℕ → ℕ) (seen seen′ : ℕ → ℕ → Type 0) (r : Spot) → ((x y : ℕ) → seen x y → seen′ x y) →
     ((x y : ℕ) → seen′ x y → seen x y) → IsBest s f seen r → IsBest s f seen′ r

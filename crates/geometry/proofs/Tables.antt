@@ -1,21 +1,17 @@
--- Tables of numbers, four to a rectangle: the rectangle at a place, a table that grows by one, a table that is filled up with zeros.
+-- Tables of numbers, four to a rectangle: the rectangle at a place, and a table that grows by one.
 use Prim.Native.Nat.{ℕ, zero, suc, _+_, _*_, _≤_, _<_}
 use mathlib.Core.Path.{_≡_, refl, ap, _∙_}
-use mathlib.Core.Bool.{Bool, true, false, _&&_, _||_}
+use mathlib.Core.Bool.{Bool, true, false, _||_}
 use mathlib.Core.Logic.{_⊎_, inl, inr}
 use mathlib.Core.List.{List, [], _∷_, _++_}
 use native.Mathlib.Numerals.{add-one, add-two, add-three}
 use native.Mathlib.Omega.{arith}
-use lib.Dec.{T, leb, ltb}
-use lib.ListN.{length, getD, drop, length-append, length-drop, replicate, length-replicate}
+use lib.Dec.{T}
+use lib.ListN.{length, getD, drop, length-drop}
 use lib.Seq.{drop-cons}
-use borrow.Author.Tests.{le-ltb}
 use Rattle.geometry.specs.declared.Rect.{Rect}
-use Rattle.geometry.specs.Count.{one-if}
-use Rattle.geometry.specs.Layout.{holds, covered, coveredArea, sharesSquare, Disjoint, rectsOf, Drawn}
+use Rattle.geometry.specs.Layout.{holds, covered, Disjoint, rectsOf}
 use Rattle.geometry.specs.Overlaps.{rectAt}
-use Rattle.geometry.proofs.Counting.{box-cong}
-use Rattle.geometry.proofs.Sharing.{shares-none}
 
 -- ---- the numbers at a place of a table
 
@@ -134,124 +130,3 @@ disjoint-more (r′ ∷ rs) r d h = (
     go : (x y : ℕ) → T (holds r′ x y) → T (covered rs x y) ⊎ T (holds r x y || false) → ⊥
     go x y p (inl q) = d .0 x y p q
     go x y p (inr q) = h x y (last (holds r x y) q) (left-true (holds r′ x y) (covered rs x y) p)
-
-append-small : (k : ℕ) (t s : List ℕ) → ((i : ℕ) → getD t i 0 ≤ k) → ((i : ℕ) → getD s i 0 ≤ k) → (i : ℕ) → getD (t ++ s) i 0 ≤ k
-append-small k [] s h g i = g i
-append-small k (a ∷ t) s h g zero = h zero
-append-small k (a ∷ t) s h g (suc i) = append-small k t s (λ j. h (suc j)) g i
-
--- a rectangle of small numbers that shares no square with those that stand may be drawn, if there is room
-
-pub drawn-more : (k : ℕ) (t : List ℕ) (a b c d : ℕ) → Drawn t → length t ≡ 4 * k → length t + 4 ≤ 4096 → a ≤ 1048576 → b ≤ 1048576 → c ≤ 1048576 → d ≤ 1048576 →
-    sharesSquare (rectsOf t) (record { x1 = a; y1 = b; x2 = c; y2 = d }) ≡ false → Drawn (t ++ a ∷ b ∷ c ∷ d ∷ [])
-drawn-more k t a b c d w e room ha hb hc hd none =
-    record {
-      few = omega (arith, length-append t (a ∷ b ∷ c ∷ d ∷ []));
-      small = append-small 1048576 t (a ∷ b ∷ c ∷ d ∷ []) (w .small) four;
-      apart =
-          rw (rects-more k t a b c d e)
-          (disjoint-more (rectsOf t) (record { x1 = a; y1 = b; x2 = c; y2 = d }) (w .apart)
-          (shares-none (rectsOf t) (record { x1 = a; y1 = b; x2 = c; y2 = d }) none));
-    }
-  where
-    four : (i : ℕ) → getD (a ∷ b ∷ c ∷ d ∷ []) i 0 ≤ 1048576
-    four zero = ha
-    four (suc zero) = hb
-    four (suc (suc zero)) = hc
-    four (suc (suc (suc zero))) = hd
-    four (suc (suc (suc (suc i)))) = omega arith
-
--- ---- a table that is filled up with zeros draws nothing more: each rectangle that is added ends at the row 0
-
-unfoldable Flat : List Rect → Type 0
-Flat [] = Unit {0}
-Flat (r ∷ rs) = (r .y2 ≡ 0) × Flat rs
-
-record Padding (t : List ℕ) (k : ℕ) : Type 0 where
-  extra : List Rect
-  split : rectsOf (t ++ replicate k 0) ≡ rectsOf t ++ extra
-  flat : Flat extra
-
-zeros-flat : (k : ℕ) → Flat (rectsOf (replicate k 0))
-unfolding rectsOf Flat
-zeros-flat zero = tt
-zeros-flat (suc zero) = tt
-zeros-flat (suc (suc zero)) = tt
-zeros-flat (suc (suc (suc zero))) = tt
-zeros-flat (suc (suc (suc (suc k)))) = (refl, zeros-flat k)
-
--- the numbers left over from whole rectangles end in a rectangle of no rows, or in none
-ends-flat : (a b c : ℕ) (k : ℕ) → Flat (record { x1 = a; y1 = b; x2 = c; y2 = 0 } ∷ rectsOf (replicate k 0))
-unfolding Flat
-ends-flat a b c k = (refl, zeros-flat k)
-
-padding : (t : List ℕ) (k : ℕ) → Padding t k
-unfolding rectsOf Flat
-padding [] k = record { extra = rectsOf (replicate k 0); split = refl; flat = zeros-flat k }
-padding (a ∷ []) zero = record { extra = []; split = refl; flat = tt }
-padding (a ∷ []) (suc zero) = record { extra = []; split = refl; flat = tt }
-padding (a ∷ []) (suc (suc zero)) = record { extra = []; split = refl; flat = tt }
-padding (a ∷ []) (suc (suc (suc k))) = record { extra = _; split = refl; flat = ends-flat a 0 0 k }
-padding (a ∷ b ∷ []) zero = record { extra = []; split = refl; flat = tt }
-padding (a ∷ b ∷ []) (suc zero) = record { extra = []; split = refl; flat = tt }
-padding (a ∷ b ∷ []) (suc (suc k)) = record { extra = _; split = refl; flat = ends-flat a b 0 k }
-padding (a ∷ b ∷ c ∷ []) zero = record { extra = []; split = refl; flat = tt }
-padding (a ∷ b ∷ c ∷ []) (suc k) = record { extra = _; split = refl; flat = ends-flat a b c k }
-padding (a ∷ b ∷ c ∷ d ∷ t) k =
-    let p = padding t k in
-    record { extra = p .extra; split = ap (λ (rs : List Rect). record { x1 = a; y1 = b; x2 = c; y2 = d } ∷ rs) (p .split); flat = p .flat }
-
-flat-holds : (r : Rect) (x y : ℕ) → r .y2 ≡ 0 → holds r x y ≡ false
-flat-holds r x y e = rw (le-ltb y (r .y2) (omega arith)) (nothing (leb (r .x1) x && ltb x (r .x2)) (leb (r .y1) y))
-  where
-    nothing : (p q : Bool) → (p && (q && false)) ≡ false
-    nothing true true = refl
-    nothing true false = refl
-    nothing false q = refl
-
-flat-covers : (rs : List Rect) (x y : ℕ) → Flat rs → covered rs x y ≡ false
-unfolding covered Flat
-flat-covers [] x y h = refl
-flat-covers (r ∷ rs) x y h = rw (flat-holds r x y (h .0)) (flat-covers rs x y (h .1))
-
--- flat rectangles at the end cover nothing more
-flat-after : (rs es : List Rect) (x y : ℕ) → Flat es → covered (rs ++ es) x y ≡ covered rs x y
-flat-after rs es x y h = covered-append rs es x y ∙ ap (λ (p : Bool). covered rs x y || p) (flat-covers es x y h) ∙ or-false (covered rs x y)
-  where
-    or-false : (p : Bool) → (p || false) ≡ p
-    or-false true = refl
-    or-false false = refl
-
-flat-apart : (rs es : List Rect) → Disjoint rs → Flat es → Disjoint (rs ++ es)
-unfolding Disjoint Flat
-flat-apart [] [] d h = tt
-flat-apart [] (e ∷ es) d h = (λ x y p q. rw (flat-holds e x y (h .0)) at p, flat-apart [] es tt (h .1))
-flat-apart (r ∷ rs) es d h = (λ x y p q. d .0 x y p (rw (flat-after rs es x y h) at q), flat-apart rs es (d .1) h)
-
-pub padded-covered : (t : List ℕ) (k x y : ℕ) → covered (rectsOf (t ++ replicate k 0)) x y ≡ covered (rectsOf t) x y
-padded-covered t k x y =
-    let p = padding t k in
-    ap (λ (rs : List Rect). covered rs x y) (p .split) ∙ flat-after (rectsOf t) (p .extra) x y (p .flat)
-
-pub padded-area : (t : List ℕ) (k : ℕ) (b : Rect) → coveredArea (rectsOf (t ++ replicate k 0)) b ≡ coveredArea (rectsOf t) b
-padded-area t k b =
-    box-cong b (λ x y. one-if (covered (rectsOf (t ++ replicate k 0)) x y)) (λ x y. one-if (covered (rectsOf t) x y))
-    (λ x y i. ap one-if (padded-covered t k x y))
-
-zeros-small : (k n i : ℕ) → getD (replicate n 0) i 0 ≤ k
-zeros-small k zero i = omega arith
-zeros-small k (suc n) zero = omega arith
-zeros-small k (suc n) (suc i) = zeros-small k n i
-
-pub padded-drawn : (t : List ℕ) (k : ℕ) → Drawn t → length t + k ≤ 4096 → Drawn (t ++ replicate k 0)
-padded-drawn t k d room =
-    record {
-      few = omega (arith, length-append t (replicate k 0), length-replicate {A = ℕ} k 0);
-      small = append-small 1048576 t (replicate k 0) (d .small) (zeros-small 1048576 k);
-      apart = let p = padding t k in rw (p .split) (flat-apart (rectsOf t) (p .extra) (d .apart) (p .flat));
-    }
-
--- the table with no rectangle
-pub drawn-none : Drawn []
-unfolding rectsOf Disjoint
-drawn-none = record { few = omega arith; small = λ i. omega arith; apart = tt }

@@ -2,11 +2,10 @@
 -- it, since no contract of the unit's public functions names it: for disjoint rectangles `overlapSum`, and `stripSum` of a strip, equal
 -- `coveredArea` (proofs/Overlaps.antt), and narrowing a strip leaves the sums between its columns as they were (proofs/Strips.antt).
 use Prim.Native.Nat.{ℕ, _+_, _-_, _*_, _≤_, min, max}
-use mathlib.Core.Path.{_≡_}
 use mathlib.Core.Bool.{true, false}
 use mathlib.Core.List.{List, [], _∷_, _++_}
 use lib.Dec.{ltb}
-use lib.ListN.{length, getD, take, drop}
+use lib.ListN.{length, getD}
 use Rattle.geometry.specs.declared.Rect.{Rect}
 
 -- the rectangle whose numbers stand from place i of a table

@@ -2,7 +2,6 @@
 
 ghost use Prim.Native.Nat.{_+_, _*_, _≤_, _<_, min, max};
 ghost use mathlib.Core.Path.{_≡_};
-ghost use mathlib.Core.List.{[], _∷_};
 ghost use lib.ListN.{length, getD};
 ghost use Rattle.geometry.specs.Layout.{rectsOf, coveredArea, sharesSquare, Drawn};
 ghost use Rattle.geometry.specs.Overlaps.{rectAt, common, overlap, part, rowsPart, columnsPart, stripOf, narrowed, stripSum, StripSmall};

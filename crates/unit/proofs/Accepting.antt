@@ -1,25 +1,23 @@
 -- What the unit needs of a file that was read: an accepted one may be run and its tables give what stands; a refused one has a number.
-use Prim.Native.Nat.{ℕ, _+_, _-_, _*_, _≤_, _<_}
+use Prim.Native.Nat.{ℕ, _+_, _-_, _*_, _≤_}
 use mathlib.Core.Path.{_≡_, refl, sym, ap, _∙_, subst, subst⁻¹}
-use mathlib.Core.List.{List, [], _++_}
+use mathlib.Core.List.{List, _++_}
 use native.Mathlib.Nat.{zero-add}
 use native.Mathlib.Omega.{arith}
 use lib.Dec.{lit≤}
 use lib.ListN.{length, take, drop, replicate, length-append, length-replicate}
-use Rattle.geometry.specs.Layout.{rectsOf}
 use Rattle.jobfile.specs.declared.Job.{Job}
-use Rattle.jobfile.specs.Forms.{tileSide, tilesAcross, formOf}
+use Rattle.jobfile.specs.Forms.{tilesAcross, formOf}
 use Rattle.jobfile.specs.Faults.{Standing, lineFault}
 use Rattle.jobfile.specs.File.{Outcome, refused, accepted, outcomeOf}
 use Rattle.jobfile.specs.Held.{asJob, tableOf, padded}
 use Rattle.jobfile.proofs.Tables.{length-table, rects-of-table}
 use Rattle.jobfile.proofs.Files.{Comes, ends, faulty, unfed, unended, Faulty, long, lines, refused-as}
 use Rattle.jobfile.proofs.Accepted.{AcceptedFacts, accepted-facts, padded-front, table-front, amount-room}
-use Rattle.unit.specs.declared.render.Rendered.{Rendered}
 use Rattle.unit.specs.Answering.{answerOf, textOf}
 use Rattle.unit.specs.Whole.{replyTo, replyNumber}
 use Rattle.unit.specs.Promise.{Promises, Demand3, Demand3OfReply}
-use Rattle.unit.specs.Room.{WrittenIn, Ready, jobStanding, Readable, asRendered, renderedIn, Rendering}
+use Rattle.unit.specs.Room.{WrittenIn, Ready, jobStanding, Readable, Rendering}
 use Rattle.unit.proofs.Demand.{Runs, promises-kept}
 use Rattle.unit.proofs.Running.{tiles-few}
 

@@ -1,6 +1,6 @@
 -- Demand 3: the answer to every job that may run keeps its promises.
 use Prim.Native.Nat.{ℕ, _+_, _-_, _*_, _≤_, _<_}
-use mathlib.Core.Path.{_≡_, refl, sym, ap, ap₂}
+use mathlib.Core.Path.{_≡_, refl, ap}
 use mathlib.Core.Bool.{Bool}
 use mathlib.Core.List.{List, [], _∷_}
 use native.Mathlib.Nat.{mul-le-mul-right}
@@ -8,11 +8,10 @@ use native.Mathlib.Omega.{arith}
 use lib.Dec.{T}
 use lib.ListN.{getD}
 use Rattle.geometry.specs.declared.Rect.{Rect}
-use Rattle.geometry.specs.declared.Spot.{Spot}
 use Rattle.geometry.specs.declared.Sense.{Sense}
 use Rattle.geometry.specs.declared.Sense.the-variants.{Greatest, Least}
-use Rattle.extremes.specs.Exact.{windowArea, extreme, exactRun}
-use Rattle.extremes.proofs.Promises.{OverAll, extreme-over-all}
+use Rattle.extremes.specs.Exact.{extreme, exactRun}
+use Rattle.extremes.proofs.Promises.{extreme-over-all}
 use Rattle.zoom.specs.declared.End.{End}
 use Rattle.zoom.specs.declared.End.the-variants.{Met, Stopped, Exact}
 use Rattle.zoom.specs.Run.{endNumber, quickRun}
@@ -29,7 +28,7 @@ use Rattle.fill.proofs.Placing.{placement}
 use Rattle.jobfile.specs.Forms.{tileSide, tilesAcross}
 use Rattle.jobfile.specs.Faults.{Standing}
 use Rattle.unit.specs.Answering.{answerOf}
-use Rattle.unit.specs.Promise.{Position, RealWindow, Earliest, areaAt, distance, Places, KeepsAt, ExactPromise, QuickPromise, FillPromise, Promises}
+use Rattle.unit.specs.Promise.{RealWindow, Earliest, distance, ExactPromise, QuickPromise, FillPromise, Promises}
 
 -- what an accepted head and its amounts say: tiles fit the window and the layout, and no amount exceeds its tile's fillable area
 pub record Runs (st : Standing) : Type 0 where

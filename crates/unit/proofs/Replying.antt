@@ -1,6 +1,6 @@
 -- From what rendering leaves to the reply and the buffer.
-use Prim.Native.Nat.{ℕ, zero, suc, _+_, _*_, _≤_, _<_}
-use mathlib.Core.Path.{_≡_, refl, sym, ap, _∙_, subst, subst⁻¹}
+use Prim.Native.Nat.{ℕ, _+_, _≤_, _<_}
+use mathlib.Core.Path.{_≡_, refl, sym, ap, _∙_}
 use mathlib.Core.Bool.{Bool, true, false, not, _&&_}
 use mathlib.Core.List.{List, [], _∷_, _++_}
 use native.Mathlib.Nat.{zero-add}
@@ -8,7 +8,7 @@ use native.Mathlib.Omega.{arith}
 use borrow.Author.Tests.{le-leb, lt-leb, leb-true}
 use lib.Dec.{leb, ltb, eqb, lit≤}
 use lib.ListN.{length, take, drop, length-append}
-use lib.Seq.{take-at, length-take-le}
+use lib.Seq.{take-at}
 use Rattle.geometry.specs.Layout.{sharesSquare}
 use Rattle.buffers.specs.Written.{Front}
 use Rattle.fill.specs.Eligible.{tile, fillableArea}
@@ -28,7 +28,7 @@ use Rattle.unit.specs.declared.Reply.{Reply}
 use Rattle.unit.specs.declared.Reply.the-variants.{Accepted, Refused}
 use Rattle.unit.specs.declared.render.Rendered.{Rendered}
 use Rattle.unit.specs.Answering.{answerOf, textOf}
-use Rattle.unit.specs.Whole.{replyTo, bufferAfter, replyFor, bufferFor, replyNumber, replyValue, codeOf, printedOf, printedFor}
+use Rattle.unit.specs.Whole.{replyTo, bufferAfter, replyFor, bufferFor, replyNumber, replyValue, printedOf, printedFor}
 use Rattle.unit.specs.Room.{WrittenIn, asRendered, renderedIn, Rendering}
 use Rattle.unit.proofs.Accepting.{refused-positive}
 

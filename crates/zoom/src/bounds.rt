@@ -2,7 +2,7 @@
 // level, over the starts that are not passed over.
 ghost use Prim.Native.Nat.{_+_, _*_, _/_, _≤_, _<_};
 ghost use mathlib.Core.Path.{_≡_};
-ghost use lib.ListN.{getD, set};
+ghost use lib.ListN.{set};
 ghost use Rattle.geometry.specs.Extreme.{spotAt};
 ghost use Rattle.geometry.specs.Layout.{rectsOf, Drawn};
 ghost use Rattle.geometry.specs.Overlaps.{StripSmall};

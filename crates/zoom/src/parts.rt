@@ -1,7 +1,6 @@
 // The part of a row's strip that the next starts can meet. A window is narrow
 // beside its row, so most of the strip's rectangles lie outside of it.
 ghost use Prim.Native.Nat.{_+_, _≤_, _<_};
-ghost use mathlib.Core.Path.{_≡_};
 ghost use lib.ListN.{length};
 ghost use Rattle.geometry.specs.Overlaps.{StripSmall};
 ghost use Rattle.zoom.specs.Grid.{Sized, Meets};

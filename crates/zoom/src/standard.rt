@@ -2,12 +2,11 @@
 // passed over.
 ghost use Prim.Native.Nat.{_+_, _*_, _/_, _≤_, _<_};
 ghost use mathlib.Core.Path.{_≡_};
-ghost use lib.ListN.{getD};
 ghost use Rattle.geometry.specs.Extreme.{spotAt, replaced, bestInRow, bestInRows};
 ghost use Rattle.geometry.specs.Layout.{rectsOf, Drawn};
 ghost use Rattle.geometry.specs.Overlaps.{StripSmall};
 ghost use Rattle.extremes.specs.Exact.{windowArea};
-ghost use Rattle.zoom.specs.Passing.{NoBetter, HarmlessRow, Harmless};
+ghost use Rattle.zoom.specs.Passing.{HarmlessRow, Harmless};
 ghost use Rattle.zoom.specs.Grid.{Sized, alongStrip, Spares};
 use crate::Grid;
 use crate::Held;

@@ -1,8 +1,7 @@
 use borrow.Author.Needs.{needs}
 use mathlib.Core.Path.{refl, sym, ap, _∙_}
 use native.Mathlib.Omega.{arith}
-use Prim.Native.Nat.{_*_, _≤_}
-use lib.ListN.{length}
+use Prim.Native.Nat.{_*_}
 use lib.Seq.{length-take-le}
 use Rattle.jobfile.specs.Forms.{tilesAcross}
 use Rattle.unit.specs.Room.{jobRects}

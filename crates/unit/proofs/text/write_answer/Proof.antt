@@ -1,8 +1,7 @@
 use borrow.Author.Needs.{needs}
 use native.Mathlib.Omega.{arith}
-use lib.Dec.{lit≤}
 use Rattle.unit.specs.Answering.{textOf}
-use Rattle.unit.proofs.Rooms.{in-room, in-turn}
+use Rattle.unit.proofs.Rooms.{in-turn}
 use Rattle.unit.proofs.text.write_answer.Statement.{statement}
 use Rattle.unit.proofs.text.write_answer.Tie as tie
 
