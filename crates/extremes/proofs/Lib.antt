@@ -5,4 +5,3 @@ pub mod Searches
 pub mod Lists
 pub mod Steps
 pub mod Promises
-pub mod Cases

@@ -1,4 +1,4 @@
--- Document 01, "Proved cases", rows A1, A2 and K: areas and the exact run. proofs/Cases.antt shows that they follow.
+-- Document 01, "Proved cases", rows A1, A2 and K: areas and the exact run. The unit's proofs/Cases.antt shows that they follow.
 use mathlib.Core.List.{List, [], _∷_}
 use Rattle.geometry.specs.declared.Rect.{Rect}
 use Rattle.geometry.specs.declared.Sense.the-variants.{Greatest, Least}

@@ -18,6 +18,7 @@ ghost use Rattle.extremes.specs.Exact.{windowArea, extreme, exactRun};
 ghost use Rattle.extremes.specs.Search.{nearSide, farSide, listed, withPosition, withEnd, withSides, candidates};
 ghost use Rattle.extremes.specs.Search.{earlier, leads, leading, leadingInRow, leadingInRows, Small};
 
+// The exact run's answer: the greatest and the least window.
 pub struct Extremes {
     pub greatest: Spot,
     pub least: Spot,
@@ -216,9 +217,9 @@ fn search_row(rects: &[u64], w: u64, sense: Sense, xs: &[u64], y: u64, best: Spo
     requires { ⌜ Small (now xs) × (y ≤ 1048576) × (w ≤ 1048576) ⌝ }
     ensures { λ r. ⌜ r ≡ leadingInRow sense (windowArea (rectsOf (now (rects .entry))) w) (now (xs .entry)) y best ⌝ }
 {
-    let mut cells = [0u64; 4096];
-    let count = geometry::strip(rects, y, y + w, &mut cells);
-    search_strip(&cells[..count], w, sense, xs, y, best)
+    let mut strip = [0u64; 4096];
+    let count = geometry::strip(rects, y, y + w, &mut strip);
+    search_strip(&strip[..count], w, sense, xs, y, best)
 }
 
 // The window at the origin, with which every search begins.
@@ -270,7 +271,7 @@ fn find_extreme(rects: &[u64], n: u64, w: u64, sense: Sense) -> Spot
 // rectangles.
 pub fn exact_run(rects: &[u64], n: u64, w: u64) -> Extremes
     requires { ⌜ Drawn (now rects) ⌝ }
-    requires { ⌜ (1 ≤ w) × (w ≤ n) × (n ≤ 1048576) ⌝ }
+    requires { ⌜ (w ≤ n) × (n ≤ 1048576) ⌝ }
     ensures { λ r. ⌜ r ≡ exactRun (rectsOf (now (rects .entry))) n w ⌝ }
 {
     let greatest = find_extreme(rects, n, w, Sense::Greatest);

@@ -6,4 +6,3 @@ pub mod Promise
 pub mod Placing
 pub mod Windows
 pub mod Loads
-pub mod Cases

@@ -19,10 +19,11 @@ use Rattle.fill.specs.declared.Failing.{Failing}
 use Rattle.fill.specs.declared.Failing.the-variants.{Nowhere, At}
 use Rattle.fill.specs.declared.Verdict.{Verdict}
 use Rattle.fill.specs.declared.Verdict.the-variants.{Broken}
-use Rattle.fill.specs.Eligible.{tile}
+use Rattle.fill.specs.Eligible.{tile, fillableArea}
 use Rattle.fill.specs.Judge.{numberAt, load, standardTiles, bloatedTiles, shrunkTiles, failingAt, standardFailing, marginFailing, judged, verdictOf}
 use Rattle.fill.specs.Windows.{overTiles, underTiles, failingWithin, failingBy, searchBy, Loads, Filled}
 use Rattle.fill.specs.Limits.{Tiled}
+use Rattle.fill.proofs.Grown.{fillable-small}
 use Rattle.fill.proofs.Starts.{below-or-last, rows-cong}
 use Rattle.fill.proofs.Cutting.{same-box}
 
@@ -76,6 +77,10 @@ tile-side d i = omega (arith, suc-mul i d)
 tile-small : (rs : List Rect) (d i j : ℕ) → coveredArea rs (tile d i j) ≤ d * d
 tile-small rs d i j = omega (arith, area-small rs (tile d i j), ap₂ _*_ (tile-side d i) (tile-side d j))
 
+-- a tile takes no more fill than its area, so an amount that fits its tile meets `Tiled`
+pub tile-fillable : (g : ℕ) (rs : List Rect) (d i j : ℕ) → fillableArea g rs (tile d i j) ≤ d * d
+tile-fillable g rs d i j = omega (arith, fillable-small g rs (tile d i j), ap₂ _*_ (tile-side d i) (tile-side d j))
+
 pub load-formed : (rs : List Rect) (amounts : List ℕ) (n d t v : ℕ) (b : Rect) → b ≡ tile d (t % n) (t / n) → v ≡ coveredArea rs b →
     v + getD amounts t 0 ≡ load rs amounts n d (t % n) (t / n)
 load-formed rs amounts n d t v b e k =
@@ -96,8 +101,8 @@ load-fits rs amounts n d t v b s h e k =
 
 module _ (rs : List Rect) (amounts : List ℕ) (n d : ℕ) (l m : List ℕ)
     (s : Filled (λ t. load rs amounts n d (t % n) (t / n)) l m (n * n)) where
-  cell-load : (i j : ℕ) → i < n → j < n → numberAt m n i j ≡ load rs amounts n d i j
-  cell-load i j h k =
+  table-load : (i j : ℕ) → i < n → j < n → numberAt m n i j ≡ load rs amounts n d i j
+  table-load i j h k =
       s .set (j * n + i) (digits-lt {q = j} {m = n} {r = i} {c = n} k h)
       ∙ ap₂ (load rs amounts n d) (digits-mod j {m = n} {r = i} h) (digits-div j {m = n} {r = i} h)
 
@@ -116,12 +121,12 @@ module _ (rs : List Rect) (amounts : List ℕ) (n d : ℕ) (l m : List ℕ)
       }
     where
       small : (x y : ℕ) → Inside (record { x1 = 0; y1 = 0; x2 = n; y2 = n }) x y → numberAt m n x y ≤ 2 * (d * d)
-      small x y i = omega (arith, cell-load x y (i .right) (i .high), tile-small rs d x y, t .room (y * n + x))
+      small x y i = omega (arith, table-load x y (i .right) (i .high), tile-small rs d x y, t .room (y * n + x))
 
   -- ---- the search over the table, and the verdict's definition
 
   box-load : (b : Rect) → b .x2 ≤ n → b .y2 ≤ n → boxSum b (numberAt m n) ≡ boxSum b (load rs amounts n d)
-  box-load b h k = box-cong b (numberAt m n) (load rs amounts n d) (λ x y i. cell-load x y (omega arith) (omega arith))
+  box-load b h k = box-cong b (numberAt m n) (load rs amounts n d) (λ x y i. table-load x y (omega arith) (omega arith))
 
   start-same : (r low high margin i j : ℕ) (a b : Rect) → overTiles n r margin i j ≡ a → underTiles r margin i j ≡ b → i + r ≤ n → j + r ≤ n →
       failingBy (numberAt m n) n r low high margin i j ≡ failingWithin low high i j (boxSum a (load rs amounts n d)) (boxSum b (load rs amounts n d))

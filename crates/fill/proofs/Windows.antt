@@ -32,8 +32,8 @@ span-room f a b total i v m e h k l = omega (arith, span-next f a b total i v e 
 
 -- ---- a table of loads
 
-pub cell-within : (n i j m : ℕ) → i < n → j < n → n * n ≤ m → j * n + i < m
-cell-within n i j m h k l = omega (arith, digits-lt {q = j} {m = n} {r = i} {c = n} k h)
+pub place-within : (n i j m : ℕ) → i < n → j < n → n * n ≤ m → j * n + i < m
+place-within n i j m h k l = omega (arith, digits-lt {q = j} {m = n} {r = i} {c = n} k h)
 
 pub box-light : (table : List ℕ) (n : ℕ) (b : Rect) → Loads table n → b .x2 ≤ n → b .y2 ≤ n → boxSum b (numberAt table n) ≤ 1125899906842624
 box-light table n b s h k =

@@ -1,4 +1,4 @@
--- Document 01, "Proved cases", rows A5 to A8: fillable areas and verdicts. proofs/Cases.antt shows that they follow.
+-- Document 01, "Proved cases", rows A5 to A8: fillable areas and verdicts. The unit's proofs/Cases.antt shows that they follow.
 use Prim.Native.Nat.{ℕ}
 use mathlib.Core.List.{List, [], _∷_}
 use Rattle.geometry.specs.Cases.{Row, row, shapesA}

@@ -16,13 +16,13 @@ use Rattle.fill.specs.Judge.{numberAt, keepsUpper, keepsLower}
 abbrev pub chosenArea : (ℕ → ℕ → Bool) → Rect → ℕ
 chosenArea chosen b = boxSum b (λ x y. one-if (chosen x y))
 
--- a placement is a choice of eligible unit squares with exactly P of them in each tile (none if not given), wherever in the tile they lie;
--- g is the gap, the layout has n tiles of side d a side
+-- a placement: every chosen square is eligible, and each tile holds as many of them as its amount, in any place. g is the gap; the layout has
+-- n tiles of side d a side
 pub record Placement (g : ℕ) (rs : List Rect) (amounts : List ℕ) (n d : ℕ) (chosen : ℕ → ℕ → Bool) : Type 0 where
   pub allowed : (x y : ℕ) → T (chosen x y) → T (eligible g rs x y)
   pub exact : (i j : ℕ) → i < n → j < n → chosenArea chosen (tile d i j) ≡ numberAt amounts n i j
 
--- the sum S of the window position (x, y): its area plus the number of chosen squares in its w by w box
+-- the sum S of the window at (x, y): its covered and its chosen squares
 abbrev pub placedSum : List Rect → (ℕ → ℕ → Bool) → (w x y : ℕ) → ℕ
 placedSum rs chosen w x y = coveredArea rs (window w x y) + chosenArea chosen (window w x y)
 

@@ -20,7 +20,7 @@ pub struct Rule {
     pub high: u64,
 }
 
-fn cell(loads: &[u64], n: u64, i: u64, j: u64) -> u64
+fn load_of(loads: &[u64], n: u64, i: u64, j: u64) -> u64
     requires { ⌜ (i < n) × (j < n) ⌝ }
     requires { ⌜ Loads (now loads) n ⌝ }
     ensures { λ r. ⌜ r ≡ numberAt (now (loads .entry)) n i j ⌝ }
@@ -38,7 +38,7 @@ fn row_load(loads: &[u64], n: u64, j: u64, x1: u64, x2: u64) -> u64
     let mut total: u64 = 0;
     let mut i = x1;
     while i < x2 {
-        total += cell(loads, n, i, j);
+        total += load_of(loads, n, i, j);
         i += 1;
     }
     total

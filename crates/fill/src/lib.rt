@@ -23,6 +23,8 @@ pub enum Failing {
     At(Bound, u64, u64),
 }
 
+// The verdict on a fill. Broken and undecided name the bound that fails first,
+// and the tile column and row of the start where it does.
 pub enum Verdict {
     Safe,
     Broken(Bound, u64, u64),

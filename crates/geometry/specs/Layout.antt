@@ -7,7 +7,7 @@ use lib.ListN.{length, getD}
 use Rattle.geometry.specs.declared.Rect.{Rect}
 use Rattle.geometry.specs.Count.{one-if, boxSum}
 
--- a rectangle covers the unit squares from x1 to before x2 and from y1 to before y2
+-- whether a rectangle covers the unit square (x, y): its low sides belong to it, its high sides do not
 abbrev pub holds : Rect → ℕ → ℕ → Bool
 holds r x y = (leb (r .x1) x && ltb x (r .x2)) && (leb (r .y1) y && ltb y (r .y2))
 

@@ -1,10 +1,10 @@
 -- What a layer above may rely on where a file was accepted.
-use Prim.Native.Nat.{ℕ, suc, _+_, _-_, _*_, _/_, _%_, _≤_, _<_}
-use mathlib.Core.Path.{_≡_, refl, ap₂, subst}
+use Prim.Native.Nat.{ℕ, _+_, _-_, _*_, _/_, _%_, _≤_, _<_}
+use mathlib.Core.Path.{_≡_, refl, subst}
 use mathlib.Core.Bool.{true, _&&_}
 use mathlib.Core.List.{List, [], _∷_}
 use mathlib.Core.Logic.{_⊎_, inl, inr}
-use native.Mathlib.Nat.{le-trans, div-add-mod', mod-lt, div-lt-iff-lt-mul, suc-mul, le-of-eq}
+use native.Mathlib.Nat.{le-trans, div-add-mod', mod-lt, div-lt-iff-lt-mul}
 use native.Mathlib.Omega.{arith}
 use lib.Dec.{leb, ltb, lit≤}
 use lib.ListN.{length, getD, take, replicate, List·getD-eq-default}
@@ -15,9 +15,8 @@ use Rattle.geometry.specs.Layout.{Disjoint, Drawn}
 use Rattle.geometry.proofs.Counting.{le-or-lt}
 use Rattle.fill.specs.Eligible.{tile, fillableArea}
 use Rattle.fill.specs.Judge.{numberAt}
-use Rattle.fill.specs.Free.{grownAll}
-use Rattle.fill.proofs.Grown.{fillable-grown, free-small}
 use Rattle.spelling.proofs.Numerals.{both}
+use Rattle.fill.proofs.Loads.{tile-fillable}
 use Rattle.jobfile.specs.declared.Head.{Head}
 use Rattle.jobfile.specs.declared.Form.{Form}
 use Rattle.jobfile.specs.declared.Turn.the-variants.{Before}
@@ -120,14 +119,6 @@ table-front rs = take-at (tableOf rs) (replicate (1024 - length (tableOf rs)) 0)
 
 -- ---- an amount is at most its tile's area
 
-tile-width : (i d : ℕ) → suc i * d - i * d ≡ d
-tile-width i d = omega (arith, suc-mul i d)
-
-fillable-small : (g : ℕ) (rs : List Rect) (d i j : ℕ) → fillableArea g rs (tile d i j) ≤ d * d
-fillable-small g rs d i j =
-    rw (fillable-grown g rs (tile d i j))
-    (le-trans (free-small (grownAll g rs) (tile d i j)) (le-of-eq (ap₂ _*_ (tile-width i d) (tile-width j d))))
-
 pub amount-room : (st : Standing) → AcceptedFacts st → (i : ℕ) → getD (st .amounts) i 0 ≤ tileSide (st .head) * tileSide (st .head)
 amount-room st f i = go (le-or-lt (length (st .amounts)) i)
   where
@@ -148,4 +139,4 @@ amount-room st f i = go (le-or-lt (length (st .amounts)) i)
         let row : i / t < t = div-lt-iff-lt-mul (some within) .1 within in
         let place : i / t * t + i % t ≡ i = div-add-mod' i t in
         le-trans (subst (λ (n : ℕ). getD (st .amounts) n 0 ≤ fillableArea (st .head .gap) (st .shapes) (tile d (i % t) (i / t))) place (f .fillable (i % t) (i / t) column row))
-        (fillable-small (st .head .gap) (st .shapes) d (i % t) (i / t))
+        (tile-fillable (st .head .gap) (st .shapes) d (i % t) (i / t))

@@ -12,7 +12,7 @@ use geometry::Rect;
 use spelling::read_as;
 ghost use mathlib.Core.Path.{_≡_};
 ghost use mathlib.Core.Bool.{_&&_};
-ghost use Prim.Native.Nat.{_/_, _%_};
+ghost use Prim.Native.Nat.{_*_, _/_, _%_, _≤_};
 ghost use lib.Dec.{leb, eqb};
 ghost use Rattle.jobfile.specs.Limits.{mostTiles};
 ghost use Rattle.jobfile.specs.Forms.{headingForm, shapeForm, fillForm, formOf, within, headInRange, rectInRange, fillInRange, inRange, tileSide, tilesAcross, agrees};
@@ -174,6 +174,15 @@ pub fn tiles_across(h: Head) -> u64
     ensures { λ r. ⌜ r ≡ tilesAcross h ⌝ }
 {
     quotient(h.size, tile_side(h))
+}
+
+// The number of tiles of a layout.
+pub fn tile_count(h: Head) -> usize
+    requires { ⌜ tilesAcross h ≤ 64 ⌝ }
+    ensures { λ r. ⌜ r ≡ tilesAcross h * tilesAcross h ⌝ }
+{
+    let across = tiles_across(h);
+    (across * across) as usize
 }
 
 // R divides W and W/R divides N.

@@ -79,8 +79,8 @@ pub fn enter(s: State, f: Form, rects: &mut [u64], amounts: &mut [u64]) -> State
             store_shape(rects, count, r);
             State {
                 turn: Turn::Shapes,
-                head,
                 count: count + 1,
+                ..s
             }
         }
         Form::Fill {
@@ -91,14 +91,12 @@ pub fn enter(s: State, f: Form, rects: &mut [u64], amounts: &mut [u64]) -> State
             store_amount(amounts, head, column, row, amount);
             State {
                 turn: Turn::Fills,
-                head,
-                count,
+                ..s
             }
         }
         Form::End => State {
             turn: Turn::Done,
-            head,
-            count,
+            ..s
         },
     }
 }

@@ -5,6 +5,7 @@ mod held;
 mod limits;
 mod reader;
 
+pub use forms::tile_count;
 pub use forms::tile_side;
 pub use forms::tiles_across;
 use geometry::Rect;

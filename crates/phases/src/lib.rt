@@ -3,7 +3,6 @@
 use fill::Verdict;
 use jobfile::Head;
 use jobfile::Job;
-use unit::tile_count;
 ghost use mathlib.Core.Path.{_≡_};
 ghost use Rattle.jobfile.specs.File.{outcomeOf};
 ghost use Rattle.unit.specs.Answering.{answerOf};
@@ -86,7 +85,7 @@ fn job_phase(phase: u64, job: Job) -> u64
     let rects = job.rects;
     let amounts = job.amounts;
     let numbers = 4 * job.count;
-    let tiles = tile_count(head);
+    let tiles = jobfile::tile_count(head);
     phase_number(phase, head, &rects[..numbers], &amounts[..tiles])
 }
 

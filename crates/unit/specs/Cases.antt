@@ -18,7 +18,7 @@ paperRows = exactRows ++ zoomRows ++ fillRows
 abbrev pub prints : String → List ℕ
 prints file = printedFor (bytes file)
 
--- the same from bytes: job A's four lines, and refusals with their number and line
+-- from bytes: job A's four lines, the other ends and verdicts, and refusals with their number and line
 abbrev pub byteRows : List Row
 byteRows =
     row "job A"

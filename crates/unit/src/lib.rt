@@ -4,7 +4,6 @@ mod run;
 mod text;
 
 use render::render;
-pub use render::tile_count;
 use text::write_line;
 use text::write_word;
 ghost use Prim.Native.Nat.{_≤_};

@@ -1,12 +1,9 @@
 // From a file's bytes to the text of its answer.
 use crate::run::run;
 use crate::text::write_answer;
-use jobfile::Head;
 use jobfile::Job;
 ghost use Prim.Native.Nat.{_*_, _≤_};
-ghost use mathlib.Core.Path.{_≡_};
 ghost use lib.ListN.{length};
-ghost use Rattle.jobfile.specs.Forms.{tilesAcross};
 ghost use Rattle.jobfile.specs.File.{outcomeOf};
 ghost use Rattle.unit.specs.Answering.{answerOf, textOf};
 ghost use Rattle.unit.specs.Room.{WrittenIn, jobStanding, Readable, Rendering};
@@ -19,15 +16,6 @@ pub struct Rendered {
     pub length: usize,
 }
 
-// The number of tiles of a layout.
-pub fn tile_count(head: Head) -> usize
-    requires { ⌜ tilesAcross head ≤ 64 ⌝ }
-    ensures { λ r. ⌜ r ≡ tilesAcross head * tilesAcross head ⌝ }
-{
-    let across = jobfile::tiles_across(head);
-    (across * across) as usize
-}
-
 // Writes the answer to a job at the front of a buffer.
 fn render_job(job: Job, text: &mut [u8]) -> usize
     requires { ⌜ Readable job ⌝ }
@@ -38,7 +26,7 @@ fn render_job(job: Job, text: &mut [u8]) -> usize
     let rects = job.rects;
     let amounts = job.amounts;
     let numbers = 4 * job.count;
-    let tiles = tile_count(head);
+    let tiles = jobfile::tile_count(head);
     let answer = run(head, &rects[..numbers], &amounts[..tiles]);
     write_answer(answer, text)
 }

@@ -8,4 +8,3 @@ pub mod Passes
 pub mod Holding
 pub mod Rows
 pub mod Zooming
-pub mod Cases

@@ -1,4 +1,4 @@
--- Document 01, "Proved cases", rows A3, A4 and Z: the quick run. proofs/Cases.antt shows that they follow.
+-- Document 01, "Proved cases", rows A3, A4 and Z: the quick run. The unit's proofs/Cases.antt shows that they follow.
 use Prim.Native.Nat.{ℕ}
 use mathlib.Core.List.{List, [], _∷_}
 use Rattle.geometry.specs.declared.Sense.the-variants.{Greatest}

@@ -1,4 +1,6 @@
--- What the code's inner functions say. A buyer need not read it: no contract of a public function names it.
+-- What the code's inner functions say. A buyer need not read it: no contract of a public function names it. Their conditions hold what they
+-- add below 2^64: a side is at most 2^20, so a start and a window end below 2^26, and a table of flags has at most (2^20 + 1)^2 =
+-- 1,099,513,724,929 places; 2^42 = 4,398,046,511,104 is room for one row more.
 use Prim.Native.Nat.{ℕ, zero, suc, _+_, _*_, _/_, _≤_, _<_, min}
 use mathlib.Core.Path.{_≡_}
 use mathlib.Core.Bool.{true, false}

@@ -1,3 +1,4 @@
+-- `extremes::add_end` meets its contract. Assumes nothing.
 use Rattle.extremes.proofs.Lists.{end-short, end-long}
 use borrow.Author.Needs.{needs}
 use Rattle.extremes.proofs.add_end.Statement.{statement}

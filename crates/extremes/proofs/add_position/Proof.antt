@@ -1,3 +1,4 @@
+-- `extremes::add_position` meets its contract. Assumes nothing.
 use Rattle.extremes.proofs.Lists.{count-taken, position-past, position-there, position-new}
 use borrow.Author.Needs.{needs}
 use Rattle.extremes.proofs.add_position.Statement.{statement}

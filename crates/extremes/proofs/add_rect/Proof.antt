@@ -1,3 +1,4 @@
+-- `extremes::add_rect` meets its contract. Assumes nothing.
 use Rattle.extremes.proofs.Lists.{rect-room, rect-added}
 use native.Mathlib.Omega.{arith}
 use borrow.Author.Needs.{needs}

@@ -1,3 +1,4 @@
+-- `extremes::add_sides` meets its contract. Assumes nothing.
 use Prim.Native.Nat.{_-_}
 use lib.ListN.{length}
 use Rattle.extremes.proofs.Lists.{SidesSoFar, sides-start, sides-next, sides-end}

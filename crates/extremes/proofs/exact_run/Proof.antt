@@ -1,3 +1,4 @@
+-- `extremes::exact_run` meets its contract. Assumes nothing.
 use Rattle.extremes.proofs.Searches.{both-found}
 use borrow.Author.Needs.{needs}
 use Rattle.extremes.proofs.exact_run.Statement.{statement}

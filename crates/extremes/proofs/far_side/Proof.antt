@@ -1,3 +1,4 @@
+-- `extremes::far_side` meets its contract. Assumes nothing.
 use borrow.Author.Needs.{needs}
 use Rattle.extremes.proofs.far_side.Statement.{statement}
 use Rattle.extremes.proofs.far_side.Tie as tie

@@ -1,3 +1,4 @@
+-- `extremes::find_extreme` meets its contract. Assumes nothing.
 use Rattle.buffers.proofs.Fronts.{front-fits, front-count}
 use Rattle.extremes.proofs.Tried.{candidates-small}
 use Rattle.extremes.proofs.Searches.{extreme-found}

@@ -1,3 +1,4 @@
+-- `extremes::goes_first` meets its contract. Assumes nothing.
 use Rattle.extremes.proofs.Steps.{leads-better, leads-tie, leads-not}
 use borrow.Author.Needs.{needs}
 use Rattle.extremes.proofs.goes_first.Statement.{statement}

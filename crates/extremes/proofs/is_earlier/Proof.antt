@@ -1,3 +1,4 @@
+-- `extremes::is_earlier` meets its contract. Assumes nothing.
 use Rattle.extremes.proofs.Steps.{earlier-row, earlier-same, earlier-not}
 use Rattle.extremes.proofs.is_earlier.Statement.{statement}
 use Rattle.extremes.proofs.is_earlier.Tie as tie

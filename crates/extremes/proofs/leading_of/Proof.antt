@@ -1,3 +1,4 @@
+-- `extremes::leading_of` meets its contract. Assumes nothing.
 use Rattle.extremes.proofs.Steps.{leading-new, leading-old}
 use borrow.Author.Needs.{needs}
 use Rattle.extremes.proofs.leading_of.Statement.{statement}

@@ -1,3 +1,4 @@
+-- `extremes::list_candidates` meets its contract. Assumes nothing.
 use Rattle.extremes.proofs.Lists.{near-small, far-small, sides-room, candidates-listed}
 use borrow.Author.Needs.{needs}
 use Rattle.extremes.proofs.list_candidates.Statement.{statement}

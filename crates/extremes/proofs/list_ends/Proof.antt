@@ -1,3 +1,4 @@
+-- `extremes::list_ends` meets its contract. Assumes nothing.
 use Rattle.extremes.proofs.Lists.{stored-length, ends-listed}
 use borrow.Author.Needs.{needs}
 use Rattle.extremes.proofs.list_ends.Statement.{statement}

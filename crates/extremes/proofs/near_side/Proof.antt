@@ -1,3 +1,4 @@
+-- `extremes::near_side` meets its contract. Assumes nothing.
 use borrow.Author.Needs.{needs}
 use Rattle.extremes.proofs.near_side.Statement.{statement}
 use Rattle.extremes.proofs.near_side.Tie as tie

@@ -1,3 +1,4 @@
+-- `extremes::search_row` meets its contract. Assumes nothing.
 use Rattle.buffers.proofs.Fronts.{front-fits, front-count}
 use Rattle.extremes.proofs.Steps.{strip-taken, strip-row}
 use borrow.Author.Needs.{needs}
@@ -13,8 +14,8 @@ slice-aggregate-strip c = search needs
 strip-requires : tie.Need-strip-requires
 strip-requires c κs = search needs
 
-array-share-prefix-cells : tie.Need-array-share-prefix-cells
-array-share-prefix-cells c = search front-fits
+array-share-prefix-strip : tie.Need-array-share-prefix-strip
+array-share-prefix-strip c = search front-fits
 
 slice-aggregate-search-strip : tie.Need-slice-aggregate-search-strip
 slice-aggregate-search-strip c = search front-count
@@ -32,7 +33,7 @@ search-row-spec =
     add-strip
     slice-aggregate-strip
     strip-requires
-    array-share-prefix-cells
+    array-share-prefix-strip
     slice-aggregate-search-strip
     search-strip-requires
     returns)

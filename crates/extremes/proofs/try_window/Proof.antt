@@ -1,3 +1,4 @@
+-- `extremes::try_window` meets its contract. Assumes nothing.
 use Rattle.extremes.proofs.Steps.{window-tried}
 use borrow.Author.Needs.{needs}
 use Rattle.extremes.proofs.try_window.Statement.{statement}

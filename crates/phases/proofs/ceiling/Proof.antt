@@ -1,3 +1,4 @@
+-- `phases::ceiling` meets its contract. Assumes nothing.
 use borrow.Author.Needs.{needs}
 use mathlib.Core.Path.{ap}
 use Rattle.extremes.specs.declared.Extremes.{Extremes}

@@ -1,3 +1,4 @@
+-- `phases::density_phase` meets its contract. Assumes nothing.
 use borrow.Author.Needs.{needs}
 use Rattle.unit.proofs.Accepting.{accepted-readable}
 use Rattle.phases.proofs.Laws.{refused-phase, accepted-phase}

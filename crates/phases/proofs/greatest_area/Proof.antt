@@ -1,3 +1,4 @@
+-- `phases::greatest_area` meets its contract. Assumes nothing.
 use borrow.Author.Needs.{needs}
 use mathlib.Core.Path.{ap}
 use Rattle.extremes.specs.declared.Extremes.{Extremes}

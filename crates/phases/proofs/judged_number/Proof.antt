@@ -1,3 +1,4 @@
+-- `phases::judged_number` meets its contract. Assumes nothing.
 use borrow.Author.Needs.{needs}
 use mathlib.Core.Path.{ap, _∙_}
 use Rattle.unit.proofs.Running.{planned-at}

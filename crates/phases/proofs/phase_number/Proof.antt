@@ -1,3 +1,4 @@
+-- `phases::phase_number` meets its contract. Assumes nothing.
 use borrow.Author.Needs.{needs}
 use Rattle.unit.specs.Answering.{answerOf}
 use Rattle.unit.specs.Room.{standingOf}

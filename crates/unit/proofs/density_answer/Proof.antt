@@ -1,3 +1,4 @@
+-- `unit::density_answer` meets its contract. Assumes nothing.
 use borrow.Author.Needs.{needs}
 use Prim.Native.Nat.{_≤_}
 use mathlib.Core.Path.{ap, _∙_, subst⁻¹}

@@ -1,3 +1,4 @@
+-- `unit::report` meets its contract. Assumes nothing.
 use borrow.Author.Needs.{needs}
 use lib.Dec.{lit≤}
 use Rattle.spelling.specs.Text.{bytes}

@@ -1,4 +1,4 @@
--- `fill::judging::row_load` meets its contract. The loop's invariant: the total and the cells that are left add up to the whole. The measure is
+-- `fill::judging::row_load` meets its contract. The loop's invariant: the total and the loads that are left add up to the whole. The measure is
 -- what is left of the columns. Assumes nothing.
 use Prim.Native.Nat.{_+_, _-_}
 use mathlib.Core.Path.{_≡_}
@@ -24,16 +24,16 @@ add-total c =
     let at = c .before .before .loop in
     omega (
       arith,
-      span-room (λ v. numberAt (a .loads .now) (a .n) v (a .j)) (a .x1) (a .x2) (at .total) (at .i) (c .cell .result) 1125899906842624 (at .inv)
-          (c .before .loop-test .taken) (c .cell .ensures) (row-light (a .loads .now) (a .n) (a .j) (a .x1) (a .x2) (s .pre .1) (s .pre .0 .0) (s .pre .0 .1)),
+      span-room (λ v. numberAt (a .loads .now) (a .n) v (a .j)) (a .x1) (a .x2) (at .total) (at .i) (c .load-of .result) 1125899906842624 (at .inv)
+          (c .before .loop-test .taken) (c .load-of .ensures) (row-light (a .loads .now) (a .n) (a .j) (a .x1) (a .x2) (s .pre .1) (s .pre .0 .0) (s .pre .0 .1)),
     )
 
 loop-again : tie.Need-loop-again Inv-loop μ-loop
 loop-again c =
     let a = c .before .before .before .before .args in
     let at = c .before .before .loop in
-    span-next (λ v. numberAt (a .loads .now) (a .n) v (a .j)) (a .x1) (a .x2) (at .total) (at .i) (c .cell .result) (at .inv) (c .before .loop-test .taken)
-    (c .cell .ensures)
+    span-next (λ v. numberAt (a .loads .now) (a .n) v (a .j)) (a .x1) (a .x2) (at .total) (at .i) (c .load-of .result) (at .inv) (c .before .loop-test .taken)
+    (c .load-of .ensures)
 
 returns : tie.Need-returns Inv-loop μ-loop
 returns c =

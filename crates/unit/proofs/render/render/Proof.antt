@@ -1,3 +1,4 @@
+-- `unit::render::render` meets its contract. Assumes nothing.
 use borrow.Author.Needs.{needs}
 use Rattle.unit.proofs.Accepting.{refused-rendering, accepted-readable, accepted-rendering}
 use Rattle.unit.proofs.render.render.Statement.{statement}

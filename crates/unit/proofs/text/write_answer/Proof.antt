@@ -1,3 +1,4 @@
+-- `unit::text::write_answer` meets its contract. Assumes nothing.
 use borrow.Author.Needs.{needs}
 use native.Mathlib.Omega.{arith}
 use Rattle.unit.specs.Answering.{textOf}

@@ -1,3 +1,4 @@
+-- `unit::text::write_failing` meets its contract. Assumes nothing.
 use borrow.Author.Needs.{needs}
 use native.Mathlib.Omega.{arith}
 use Rattle.unit.proofs.Rooms.{in-turn}

@@ -1,3 +1,4 @@
+-- `unit::text::write_quick` meets its contract. Assumes nothing.
 use borrow.Author.Needs.{needs}
 use native.Mathlib.Omega.{arith}
 use lib.Dec.{lit≤}

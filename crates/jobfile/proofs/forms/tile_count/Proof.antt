@@ -1,15 +1,16 @@
+-- `jobfile::forms::tile_count` meets its contract. Assumes nothing.
 use borrow.Author.Needs.{needs}
 use mathlib.Core.Path.{ap₂}
 use Prim.Native.Nat.{_*_, _≤_}
 use native.Mathlib.Omega.{arith}
-use Rattle.unit.proofs.Running.{tiles-few}
-use Rattle.unit.proofs.render.tile_count.Statement.{statement}
-use Rattle.unit.proofs.render.tile_count.Tie as tie
+use native.Mathlib.Nat.{mul-le-mul}
+use Rattle.jobfile.proofs.forms.tile_count.Statement.{statement}
+use Rattle.jobfile.proofs.forms.tile_count.Tie as tie
 
 mul-result : tie.Need-mul-result
 mul-result c =
     let few : c .tiles-across .result ≤ 64 = omega (arith, c .tiles-across .ensures, c .before .pre) in
-    record { fits = omega (arith, tiles-few (c .tiles-across .result) few) }
+    record { fits = omega (arith, mul-le-mul few few) }
 
 returns : tie.Need-returns
 returns c = ap₂ _*_ (c .tiles-across .ensures) (c .tiles-across .ensures)
