@@ -6,19 +6,19 @@ use reference::answer::Reply;
 
 mod entries {
     extern "C" {
-        pub fn density_answer(
+        pub(super) fn density_answer(
             file: *const u8,
             file_length: usize,
             out: *mut u8,
             out_length: usize,
         ) -> u64;
-        pub fn density_phase(file: *const u8, file_length: usize, phase: u64) -> u64;
+        pub(super) fn density_phase(file: *const u8, file_length: usize, phase: u64) -> u64;
     }
 }
 
-/// What the library's one number is made of: 100000 times the reply's number,
-/// plus its value.
-const NUMBER: u64 = 100_000;
+/// The library's one number is this many times the fault's number, 0 for none,
+/// plus the answer's length or the fault's line.
+const FACTOR: u64 = 100_000;
 
 /// The proved unit's answer into a lent buffer.
 pub fn answer(file: &[u8], out: &mut [u8]) -> Reply {
@@ -26,7 +26,7 @@ pub fn answer(file: &[u8], out: &mut [u8]) -> Reply {
     // condition of its own.
     let code =
         unsafe { entries::density_answer(file.as_ptr(), file.len(), out.as_mut_ptr(), out.len()) };
-    let (number, value) = (code / NUMBER, code % NUMBER);
+    let (number, value) = (code / FACTOR, code % FACTOR);
     if number == 0 {
         Reply::Accepted(value as usize)
     } else {
@@ -37,7 +37,8 @@ pub fn answer(file: &[u8], out: &mut [u8]) -> Reply {
     }
 }
 
-/// Reads a job and runs it up to a phase, for the benchmark.
+/// Reads a job and runs one phase, for the benchmark: 1 is the exact run, 2 the
+/// exact and the quick run, 3 the verdict; 0 reads only.
 pub fn phase(file: &[u8], phase: u64) -> u64 {
     // SAFETY: as for `answer`.
     unsafe { entries::density_phase(file.as_ptr(), file.len(), phase) }
@@ -87,5 +88,5 @@ pub fn on_large_stack(task: impl FnOnce() + Send + 'static) {
         .spawn(task)
         .expect("a thread")
         .join()
-        .expect("no difference between the two");
+        .expect("a task that does not panic");
 }

@@ -28,7 +28,7 @@ fn extreme(job: &Job, greatest: bool) -> u64 {
 /// once. At a first maximum the window's low edge meets a low side or its high
 /// edge a high side; at a first minimum it is the other way round.
 fn candidates(job: &Job, axis: usize, greatest: bool) -> Vec<u64> {
-    let last = job.size - job.window;
+    let last = job.last_position();
     let (near, far) = if greatest {
         (axis, axis + 2)
     } else {

@@ -5,7 +5,7 @@ use crate::outcome::{Outcome, Quick};
 use crate::{brute, fast};
 
 /// Which implementation of the phases to use.
-#[derive(Clone, Copy, Debug, PartialEq, Eq)]
+#[derive(Clone, Copy)]
 pub enum Method {
     /// Square by square, for layouts up to [`brute::LARGEST_SIDE`].
     Brute,
@@ -14,7 +14,7 @@ pub enum Method {
 }
 
 /// What a caller with an answer buffer gets back.
-#[derive(Clone, Copy, Debug, PartialEq, Eq)]
+#[derive(Debug, PartialEq, Eq)]
 pub enum Reply {
     /// The length of the answer at the front of the buffer.
     Accepted(usize),
@@ -29,7 +29,7 @@ impl From<Refusal> for Reply {
 }
 
 impl Method {
-    pub fn read(self, bytes: &[u8]) -> Result<Job, Refusal> {
+    fn read(self, bytes: &[u8]) -> Result<Job, Refusal> {
         match self {
             Method::Brute => brute::read(bytes),
             Method::Fast => fast::read(bytes),

@@ -22,20 +22,19 @@ struct Place {
 }
 
 /// A stretch of the x axis.
-#[derive(Clone, Copy)]
-pub struct Span {
+pub(crate) struct Span {
     from: Place,
     to: Place,
 }
 
 /// A horizontal strip of the layout: for each column of cells the covered
 /// area left of it and the covered height in it.
-pub struct Strip(Vec<(u64, u64)>);
+pub(crate) struct Strip(Vec<(u64, u64)>);
 
 impl Strip {
     /// Covered area of the strip within the span.
     #[inline]
-    pub fn area(&self, span: &Span) -> u64 {
+    pub(crate) fn area(&self, span: &Span) -> u64 {
         self.left_of(span.to) - self.left_of(span.from)
     }
 
@@ -48,7 +47,7 @@ impl Strip {
 
 impl Cover {
     /// The union of boxes X1 Y1 X2 Y2 that lie in a layout of this size.
-    pub fn new(size: u64, boxes: &[[u64; 4]]) -> Cover {
+    pub(crate) fn new(size: u64, boxes: &[[u64; 4]]) -> Cover {
         let columns = cuts(size, boxes.iter().flat_map(|b| [b[0], b[2]]));
         let rows = cuts(size, boxes.iter().flat_map(|b| [b[1], b[3]]));
         let covered = covered_cells(&columns, &rows, boxes);
@@ -72,7 +71,7 @@ impl Cover {
     }
 
     /// The stretch from `left` to before `right`, for use with many strips.
-    pub fn span(&self, left: u64, right: u64) -> Span {
+    pub(crate) fn span(&self, left: u64, right: u64) -> Span {
         Span {
             from: self.place(left),
             to: self.place(right),
@@ -80,7 +79,7 @@ impl Cover {
     }
 
     /// The strip from `bottom` to before `top`.
-    pub fn strip(&self, bottom: u64, top: u64) -> Strip {
+    pub(crate) fn strip(&self, bottom: u64, top: u64) -> Strip {
         let heights = self.heights(top).zip(self.heights(bottom));
         let widths = self.columns.windows(2).map(|pair| pair[1] - pair[0]);
         let mut left = 0;
@@ -100,7 +99,7 @@ impl Cover {
     }
 
     /// Covered areas of all tiles of this side, row by row.
-    pub fn tile_areas(&self, side: u64, tiles: u64) -> Vec<u64> {
+    pub(crate) fn tile_areas(&self, side: u64, tiles: u64) -> Vec<u64> {
         let spans: Vec<Span> = (0..tiles)
             .map(|column| self.span(column * side, (column + 1) * side))
             .collect();
@@ -139,6 +138,7 @@ fn cell_at(cuts: &[u64], position: u64) -> usize {
     cuts.partition_point(|&cut| cut <= position) - 1
 }
 
+/// The sides and the layout's edges, each once, in rising order.
 fn cuts(size: u64, sides: impl Iterator<Item = u64>) -> Vec<u64> {
     let mut cuts: Vec<u64> = sides.chain([0, size]).collect();
     cuts.sort_unstable();
@@ -149,30 +149,46 @@ fn cuts(size: u64, sides: impl Iterator<Item = u64>) -> Vec<u64> {
 /// Marks the cells by adding up the boxes' corner differences, so that boxes
 /// which overlap cost no more than others.
 fn covered_cells(columns: &[u64], rows: &[u64], boxes: &[[u64; 4]]) -> Vec<u64> {
+    let mut depths = corner_differences(columns, rows, boxes);
+    for row in depths.chunks_exact_mut(columns.len()) {
+        add_up_row(row);
+    }
+    add_up_columns(&mut depths, columns.len());
+    let is_covered = |depth: i32| u64::from(depth > 0);
+    depths.into_iter().map(is_covered).collect()
+}
+
+/// 1 more at the lower left and the upper right corner of each box, 1 less at
+/// the others: added up along rows and columns, each cell's number of boxes.
+fn corner_differences(columns: &[u64], rows: &[u64], boxes: &[[u64; 4]]) -> Vec<i32> {
     let width = columns.len();
-    let mut depth = vec![0i32; width * rows.len()];
+    let mut differences = vec![0; width * rows.len()];
     for &[x1, y1, x2, y2] in boxes {
         let (left, right) = (cell_at(columns, x1), cell_at(columns, x2));
         let (bottom, top) = (cell_at(rows, y1), cell_at(rows, y2));
-        depth[bottom * width + left] += 1;
-        depth[bottom * width + right] -= 1;
-        depth[top * width + left] -= 1;
-        depth[top * width + right] += 1;
+        differences[bottom * width + left] += 1;
+        differences[bottom * width + right] -= 1;
+        differences[top * width + left] -= 1;
+        differences[top * width + right] += 1;
     }
-    for row in depth.chunks_exact_mut(width) {
-        for column in 1..width {
-            row[column] += row[column - 1];
-        }
-    }
-    for cell in width..depth.len() {
-        depth[cell] += depth[cell - width];
-    }
-    depth
-        .into_iter()
-        .map(|boxes| u64::from(boxes > 0))
-        .collect()
+    differences
 }
 
+/// Adds to each cell of a row all cells before it.
+fn add_up_row(row: &mut [i32]) {
+    for column in 1..row.len() {
+        row[column] += row[column - 1];
+    }
+}
+
+/// Adds to each cell all cells of its column below it.
+fn add_up_columns(cells: &mut [i32], width: usize) {
+    for cell in width..cells.len() {
+        cells[cell] += cells[cell - width];
+    }
+}
+
+/// Covered height of each column below each row cut, row by row.
 fn heights_below(covered: &[u64], width: usize, rows: &[u64]) -> Vec<u64> {
     let mut below = vec![0; covered.len()];
     for (row, pair) in rows.windows(2).enumerate() {

@@ -233,17 +233,25 @@ pub fn quick_run(job: &Job, cover: &Cover, max: Window) -> Quick {
     }
 }
 
+/// Covered area plus fill of each tile, row by row.
+fn tile_loads(job: &Job, cover: &Cover) -> Vec<u64> {
+    let covered = cover.tile_areas(job.tile_side(), job.tiles());
+    let amounts = job.fills.iter();
+    covered.iter().zip(amounts).map(|(c, p)| c + p).collect()
+}
+
 /// Sums of the tile loads left of and below each tile corner.
-struct LoadSums {
+pub(crate) struct LoadSums {
     tiles: usize,
     sums: Vec<u64>,
 }
 
 impl LoadSums {
-    fn new(tiles: usize, loads: &[u64]) -> LoadSums {
+    pub(crate) fn new(job: &Job, cover: &Cover) -> LoadSums {
+        let tiles = job.tiles() as usize;
         let width = tiles + 1;
         let mut sums = vec![0; width * width];
-        for (row, loads) in loads.chunks_exact(tiles).enumerate() {
+        for (row, loads) in tile_loads(job, cover).chunks_exact(tiles).enumerate() {
             let mut row_sum = 0;
             for (column, load) in loads.iter().enumerate() {
                 row_sum += load;
@@ -266,17 +274,22 @@ impl LoadSums {
 
     /// The load of the window whose tiles, on each axis, are these places
     /// counted from the start.
-    fn window(&self, (column, row): (usize, usize), places: &Range<usize>) -> u64 {
+    pub(crate) fn window(&self, (column, row): (usize, usize), places: &Range<usize>) -> u64 {
         let tiles = |start: usize| start + places.start..start + places.end;
         self.load(tiles(column), tiles(row))
     }
 }
 
+/// Column and row of each tile start, row by row.
+pub(crate) fn tile_starts(job: &Job) -> impl Iterator<Item = (usize, usize)> {
+    let starts = 0..=job.last_tile_start() as usize;
+    let columns = starts.clone();
+    starts.flat_map(move |row| columns.clone().map(move |column| (column, row)))
+}
+
 /// The verdict on a job's fills.
 pub fn verdict(job: &Job, cover: &Cover) -> Verdict {
-    let drawn = cover.tile_areas(job.tile_side(), job.tiles());
-    let loads: Vec<u64> = drawn.iter().zip(&job.fills).map(|(d, p)| d + p).collect();
-    let sums = LoadSums::new(job.tiles() as usize, &loads);
+    let sums = LoadSums::new(job, cover);
     let cut = job.cut as usize;
     let (standard, bloated, shrunk) = (0..cut, 0..cut + 1, 1..cut);
     match first_failure(job, &sums, &standard, &standard) {
@@ -296,11 +309,7 @@ fn first_failure(
     most: &Range<usize>,
     least: &Range<usize>,
 ) -> Option<Failure> {
-    let starts = 0..=job.last_tile_start() as usize;
-    let mut grid = starts
-        .clone()
-        .flat_map(|row| starts.clone().map(move |column| (column, row)));
-    grid.find_map(|start| {
+    tile_starts(job).find_map(|start| {
         let side = if !job.keeps_upper(sums.window(start, most)) {
             Side::Over
         } else if !job.keeps_lower(sums.window(start, least)) {

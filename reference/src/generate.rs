@@ -13,7 +13,7 @@ mod random;
 mod small;
 
 pub use boundary::{boundary_jobs, BoundaryJob};
-pub use damage::{damage, damaged_job};
+pub use damage::damaged_job;
 pub use faulty::{faulty_job, job_with_fault, SPOILABLE};
 pub use large::{large_job, large_jobs, LargeJob};
 pub use line::{bytes_of, Line};

@@ -1,26 +1,26 @@
 //! The reader: from the bytes of a job file to a [`Job`] or its first fault.
 
 /// Most bytes a job file may have.
-pub const LARGEST_FILE: usize = 60_000;
+pub(crate) const LARGEST_FILE: usize = 60_000;
 /// Most rectangles a job may have.
-pub const MOST_RECTS: usize = 256;
+pub(crate) const MOST_RECTS: usize = 256;
 /// Most tiles along one side of the layout.
-pub const MOST_TILES: u64 = 64;
+pub(crate) const MOST_TILES: u64 = 64;
 /// Longest side of a layout.
-pub const LARGEST_SIDE: u64 = 65_535;
+pub(crate) const LARGEST_SIDE: u64 = 65_535;
 
 const MOST_DIGITS: usize = 10;
 const MOST_HALVINGS: u64 = 4;
 
 /// The least and greatest value of each number of a form, in file order.
-pub type Ranges<const K: usize> = [(u64, u64); K];
+pub(crate) type Ranges<const K: usize> = [(u64, u64); K];
 
 const SIDE: (u64, u64) = (1, LARGEST_SIDE);
 const CORNER: (u64, u64) = (0, LARGEST_SIDE);
 const BOUND: (u64, u64) = (0, 10_000);
 const TILE: (u64, u64) = (0, MOST_TILES - 1);
 
-pub const HEAD_RANGES: Ranges<8> = [
+pub(crate) const HEAD_RANGES: Ranges<8> = [
     SIDE,
     SIDE,
     (1, 64),
@@ -30,11 +30,11 @@ pub const HEAD_RANGES: Ranges<8> = [
     (0, 1000),
     (1, 6),
 ];
-pub const RECT_RANGES: Ranges<4> = [CORNER; 4];
-pub const FILL_RANGES: Ranges<3> = [TILE, TILE, (1, LARGEST_SIDE * LARGEST_SIDE)];
+pub(crate) const RECT_RANGES: Ranges<4> = [CORNER; 4];
+pub(crate) const FILL_RANGES: Ranges<3> = [TILE, TILE, (1, LARGEST_SIDE * LARGEST_SIDE)];
 
 /// A job that was read without a fault.
-#[derive(Clone, Debug, Default, PartialEq, Eq)]
+#[derive(Debug, Default)]
 pub struct Job {
     /// Side of the layout.
     pub size: u64,
@@ -75,17 +75,17 @@ impl Job {
     }
 
     /// The last tile column or row at which a window starts.
-    pub fn last_tile_start(&self) -> u64 {
+    pub(crate) fn last_tile_start(&self) -> u64 {
         self.tiles() - self.cut
     }
 
     /// How often the quick run halves the window side.
-    pub fn halvings(&self) -> u64 {
+    pub(crate) fn halvings(&self) -> u64 {
         u64::from(self.window.trailing_zeros()).min(MOST_HALVINGS)
     }
 
     /// Whether floor and ceiling are as close as the accuracy asks.
-    pub fn is_met(&self, floor: u64, ceiling: u64) -> bool {
+    pub(crate) fn is_met(&self, floor: u64, ceiling: u64) -> bool {
         1000 * ceiling <= (1000 + 2 * self.accuracy) * floor
     }
 
@@ -124,8 +124,7 @@ impl Job {
 }
 
 /// The faults by their numbers.
-#[derive(Clone, Copy, Debug, PartialEq, Eq)]
-pub enum Fault {
+pub(crate) enum Fault {
     TooLong = 1,
     Spelling = 2,
     Range = 3,
@@ -142,14 +141,14 @@ pub enum Fault {
 }
 
 /// Number and line of the first fault.
-#[derive(Clone, Copy, Debug, PartialEq, Eq)]
+#[derive(Debug, PartialEq, Eq)]
 pub struct Refusal {
     pub number: u32,
     pub line: u32,
 }
 
 impl Refusal {
-    pub fn new(fault: Fault, line: usize) -> Refusal {
+    pub(crate) fn new(fault: Fault, line: usize) -> Refusal {
         Refusal {
             number: fault as u32,
             line: line as u32,
@@ -159,7 +158,10 @@ impl Refusal {
 
 /// Reads a job file. `fillable_areas` gives the fillable area of every tile,
 /// row by row, of a job whose rectangles are complete.
-pub fn read_with(bytes: &[u8], fillable_areas: impl Fn(&Job) -> Vec<u64>) -> Result<Job, Refusal> {
+pub(crate) fn read_with(
+    bytes: &[u8],
+    fillable_areas: impl Fn(&Job) -> Vec<u64>,
+) -> Result<Job, Refusal> {
     if bytes.len() > LARGEST_FILE {
         return Err(Refusal::new(Fault::TooLong, 0));
     }
@@ -264,7 +266,7 @@ fn refuse_if(faulty: bool, fault: Fault) -> Result<(), Fault> {
 }
 
 /// Whether two rectangles share a unit square.
-fn overlap(a: &[u64; 4], b: &[u64; 4]) -> bool {
+pub(crate) fn overlap(a: &[u64; 4], b: &[u64; 4]) -> bool {
     a[0] < b[2] && b[0] < a[2] && a[1] < b[3] && b[1] < a[3]
 }
 

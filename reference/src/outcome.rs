@@ -18,7 +18,7 @@ pub struct Exact {
 }
 
 /// How the quick run ended.
-#[derive(Clone, Copy, Debug, PartialEq, Eq, PartialOrd, Ord)]
+#[derive(Clone, Copy, Debug, PartialEq, Eq)]
 pub enum End {
     Met,
     Stopped,
@@ -36,7 +36,7 @@ pub struct Quick {
 }
 
 /// The bound that fails: the upper one is passed over, the lower one under.
-#[derive(Clone, Copy, Debug, PartialEq, Eq, PartialOrd, Ord)]
+#[derive(Clone, Copy, Debug, PartialEq, Eq)]
 pub enum Side {
     Over,
     Under,
@@ -50,6 +50,7 @@ pub struct Failure {
     pub row: u64,
 }
 
+/// Whether the windows keep both bounds under the fills.
 #[derive(Clone, Copy, Debug, PartialEq, Eq)]
 pub enum Verdict {
     Safe,
@@ -58,7 +59,7 @@ pub enum Verdict {
 }
 
 /// All that an answer tells.
-#[derive(Clone, Copy, Debug, PartialEq, Eq)]
+#[derive(Debug, PartialEq, Eq)]
 pub struct Outcome {
     pub exact: Exact,
     pub quick: Quick,

@@ -1,8 +1,9 @@
 //! Times each phase of the proved unit on the heaviest legal jobs, and prints
 //! its ratio to the second implementation in the same run.
 //!
-//! A phase of the proved unit is the time up to and with it, less the time up
-//! to the phase before it; every time is the least of several runs.
+//! The library reads the job for every phase and does the exact run before the
+//! quick one, so a phase is the difference of two times. Every time is the least
+//! of several runs; a dash stands for one that noise hides.
 
 use comparison::{on_large_stack, phase, plain};
 use reference::fast;
@@ -11,7 +12,39 @@ use reference::job::Job;
 use std::hint::black_box;
 use std::time::Instant;
 
-const RUNS: usize = 7;
+const RUNS: usize = 15;
+
+/// A time below this, in milliseconds, is noise.
+const LEAST_TIME: f64 = 0.02;
+/// A difference below this share of the longer time is noise too.
+const LEAST_SHARE: f64 = 0.02;
+
+/// A time in milliseconds, or none where noise hides it.
+type Milliseconds = Option<f64>;
+
+fn above_noise(time: f64) -> Milliseconds {
+    (time >= LEAST_TIME).then_some(time)
+}
+
+fn difference(longer: f64, shorter: f64) -> Milliseconds {
+    above_noise(longer - shorter).filter(|&rest| rest >= LEAST_SHARE * longer)
+}
+
+fn ratio(time: Milliseconds, other: Milliseconds) -> Option<f64> {
+    Some(time? / other?)
+}
+
+/// The times of one implementation.
+struct Times {
+    /// Reading the job without its fills.
+    unfilled: Milliseconds,
+    /// The rest of reading: the fill lines and the fillable areas.
+    fills: Milliseconds,
+    reading: Milliseconds,
+    exact: Milliseconds,
+    quick: Milliseconds,
+    verdict: Milliseconds,
+}
 
 /// The time of one run, in milliseconds.
 fn time<T>(work: impl FnOnce() -> T) -> f64 {
@@ -27,80 +60,99 @@ fn least_time<T>(mut work: impl FnMut() -> T) -> f64 {
         .fold(f64::INFINITY, f64::min)
 }
 
-/// The least times up to each phase of the proved unit, in turn within a run so
-/// that a busy moment of the machine falls on all of them.
-fn times_upto(bytes: &[u8]) -> [f64; 4] {
-    let mut least = [f64::INFINITY; 4];
+/// The least times of some files' phases, in turn within a run so that a busy
+/// moment of the machine falls on all of them.
+fn least_phase_times<const K: usize>(tasks: [(&[u8], u64); K]) -> [f64; K] {
+    let mut least = [f64::INFINITY; K];
     for _ in 0..RUNS {
-        for (number, best) in least.iter_mut().enumerate() {
-            *best = best.min(time(|| phase(bytes, number as u64)));
+        for (best, (file, number)) in least.iter_mut().zip(tasks) {
+            *best = best.min(time(|| phase(file, number)));
         }
     }
     least
 }
 
-fn print_row(name: &str, proved: f64, second: f64) {
-    let ratio = proved / second;
-    println!("  {name:28} {proved:10.3} {second:10.3} {ratio:8.2}");
+fn proved_times(file: &[u8], unfilled_file: &[u8]) -> Times {
+    let tasks = [
+        (unfilled_file, 0),
+        (file, 0),
+        (file, 1),
+        (file, 2),
+        (file, 3),
+    ];
+    let [unfilled, reading, exact, exact_and_quick, verdict] = least_phase_times(tasks);
+    Times {
+        unfilled: above_noise(unfilled),
+        fills: difference(reading, unfilled),
+        reading: above_noise(reading),
+        exact: difference(exact, reading),
+        quick: difference(exact_and_quick, exact),
+        verdict: difference(verdict, reading),
+    }
 }
 
-/// The phases of the second implementation: reading, exact, quick, verdict.
-fn second_times(bytes: &[u8], job: &Job) -> [f64; 4] {
+/// The drawn cover, which serves three phases, counts with the exact run.
+fn second_times(file: &[u8], unfilled_file: &[u8], job: &Job) -> Times {
     let cover = fast::drawn_cover(job);
-    let exact = fast::exact_run(job, &cover);
-    [
-        least_time(|| fast::read(bytes)),
-        least_time(|| fast::exact_run(job, &fast::drawn_cover(job))),
-        least_time(|| fast::quick_run(job, &cover, exact.max)),
-        least_time(|| fast::verdict(job, &cover)),
-    ]
+    let max = fast::exact_run(job, &cover).max;
+    let unfilled = least_time(|| fast::read(unfilled_file));
+    let reading = least_time(|| fast::read(file));
+    let exact = least_time(|| fast::exact_run(job, &fast::drawn_cover(job)));
+    Times {
+        unfilled: above_noise(unfilled),
+        fills: difference(reading, unfilled),
+        reading: above_noise(reading),
+        exact: above_noise(exact),
+        quick: above_noise(least_time(|| fast::quick_run(job, &cover, max))),
+        verdict: above_noise(least_time(|| fast::verdict(job, &cover))),
+    }
 }
 
-/// The job without its fills: what is left of reading is no fillable area.
-fn without_fills(bytes: &[u8]) -> Vec<u8> {
-    bytes
-        .split_inclusive(|&byte| byte == b'\n')
+/// The job without its fill lines.
+fn without_fills(file: &[u8]) -> Vec<u8> {
+    file.split_inclusive(|&byte| byte == b'\n')
         .filter(|line| !line.starts_with(b"(fill"))
         .flatten()
         .copied()
         .collect()
 }
 
+/// A number with so many digits behind the point, or a dash.
+fn shown(number: Option<f64>, digits: usize) -> String {
+    number.map_or("-".to_string(), |number| format!("{number:.digits$}"))
+}
+
+fn print_row(name: &str, proved: Milliseconds, second: Milliseconds) {
+    println!(
+        "  {name:28} {:>10} {:>10} {:>8}",
+        shown(proved, 3),
+        shown(second, 3),
+        shown(ratio(proved, second), 2)
+    );
+}
+
 fn bench(large: &LargeJob) {
-    let bytes = &large.job;
-    let job = fast::read(bytes).expect("large jobs are valid");
-    println!("{} ({} bytes)", large.name, bytes.len());
+    let file = &large.job;
+    let job = fast::read(file).expect("large jobs are valid");
+    let unfilled_file = without_fills(file);
+    let proved = proved_times(file, &unfilled_file);
+    let second = second_times(file, &unfilled_file, &job);
+    let plain = above_noise(least_time(|| plain::exact_run(&job)));
+    println!("{} ({} bytes)", large.name, file.len());
     println!(
         "  {:28} {:>10} {:>10} {:>8}",
         "phase", "proved ms", "second ms", "ratio"
     );
-    let upto = times_upto(bytes);
-    let second = second_times(bytes, &job);
-    let unfilled = without_fills(bytes);
-    let reading = least_time(|| phase(&unfilled, 0));
-    print_row(
-        "reading, fills left out",
-        reading,
-        least_time(|| fast::read(&unfilled)),
-    );
-    print_row(
-        "fills: fillable areas",
-        upto[0] - reading,
-        least_time(|| fast::fillable_areas(&job)),
-    );
-    print_row("reading in all", upto[0], second[0]);
-    print_row("exact run", upto[1] - upto[0], second[1]);
-    print_row(
-        "  beside a plain loop",
-        upto[1] - upto[0],
-        least_time(|| plain::exact_run(&job)),
-    );
-    print_row("quick run", upto[2] - upto[1], second[2]);
-    print_row("verdict", upto[3] - upto[0], second[3]);
-    println!(
-        "  quick run / exact run: {:.3}",
-        (upto[2] - upto[1]) / (upto[1] - upto[0])
-    );
+    print_row("reading, fills left out", proved.unfilled, second.unfilled);
+    print_row("fills, fillable areas", proved.fills, second.fills);
+    print_row("reading in all", proved.reading, second.reading);
+    print_row("exact run", proved.exact, second.exact);
+    print_row("  beside a plain loop", proved.exact, plain);
+    print_row("quick run", proved.quick, second.quick);
+    print_row("verdict", proved.verdict, second.verdict);
+    if let Some(ratio) = ratio(proved.quick, proved.exact) {
+        println!("  quick run / exact run: {ratio:.3}");
+    }
 }
 
 fn main() {

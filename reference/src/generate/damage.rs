@@ -21,7 +21,7 @@ pub fn damaged_job(random: &mut Random) -> Vec<u8> {
 }
 
 /// Damages a file in one way.
-pub fn damage(random: &mut Random, file: &mut Vec<u8>) {
+fn damage(random: &mut Random, file: &mut Vec<u8>) {
     let place = random.index(file.len() + 1);
     match random.below(10) {
         0 => flip(random, file, place),
@@ -54,14 +54,14 @@ fn delete(random: &mut Random, file: &mut Vec<u8>, place: usize) {
     file.drain(place.min(end)..end);
 }
 
-fn lines_of(file: &[u8]) -> Vec<Vec<u8>> {
+fn raw_lines(file: &[u8]) -> Vec<Vec<u8>> {
     file.split_inclusive(|&byte| byte == b'\n')
         .map(<[u8]>::to_vec)
         .collect()
 }
 
 fn double_a_line(random: &mut Random, file: &mut Vec<u8>) {
-    let mut lines = lines_of(file);
+    let mut lines = raw_lines(file);
     if !lines.is_empty() {
         let place = random.index(lines.len());
         lines.insert(place, lines[place].clone());
@@ -70,7 +70,7 @@ fn double_a_line(random: &mut Random, file: &mut Vec<u8>) {
 }
 
 fn swap_two_lines(random: &mut Random, file: &mut Vec<u8>) {
-    let mut lines = lines_of(file);
+    let mut lines = raw_lines(file);
     if !lines.is_empty() {
         let (one, other) = (random.index(lines.len()), random.index(lines.len()));
         lines.swap(one, other);

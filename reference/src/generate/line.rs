@@ -3,7 +3,7 @@
 use crate::job::Job;
 
 /// A well spelled line with any numbers.
-#[derive(Clone, Copy, Debug, PartialEq, Eq)]
+#[derive(Clone, Copy, PartialEq, Eq)]
 pub enum Line {
     /// Size, window, cut, gap, both bounds, accuracy and levels.
     Head([u64; 8]),
@@ -35,7 +35,7 @@ pub fn bytes_of(lines: &[Line]) -> Vec<u8> {
 }
 
 /// The file of a job, its fills in the order of the tiles.
-pub fn lines_of(job: &Job) -> Vec<Line> {
+pub(super) fn lines_of(job: &Job) -> Vec<Line> {
     let head = [
         job.size,
         job.window,

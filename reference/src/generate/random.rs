@@ -1,7 +1,6 @@
 //! A small deterministic source of random numbers (splitmix64).
 
 /// Numbers that follow from a seed.
-#[derive(Clone, Debug)]
 pub struct Random(u64);
 
 impl Random {
@@ -9,7 +8,7 @@ impl Random {
         Random(seed)
     }
 
-    pub fn draw(&mut self) -> u64 {
+    fn draw(&mut self) -> u64 {
         self.0 = self.0.wrapping_add(0x9e37_79b9_7f4a_7c15);
         let mut mixed = self.0;
         mixed = (mixed ^ (mixed >> 30)).wrapping_mul(0xbf58_476d_1ce4_e5b9);
@@ -24,12 +23,12 @@ impl Random {
     }
 
     /// A number from `least` to `greatest`, both included.
-    pub fn between(&mut self, least: u64, greatest: u64) -> u64 {
+    pub(super) fn between(&mut self, least: u64, greatest: u64) -> u64 {
         least + self.below(greatest - least + 1)
     }
 
     /// A place in something of this length.
-    pub fn index(&mut self, length: usize) -> usize {
+    pub(super) fn index(&mut self, length: usize) -> usize {
         self.below(length as u64) as usize
     }
 
@@ -39,11 +38,11 @@ impl Random {
     }
 
     /// True in this many percent of the cases.
-    pub fn percent(&mut self, share: u64) -> bool {
+    pub(super) fn percent(&mut self, share: u64) -> bool {
         self.below(100) < share
     }
 
-    pub fn pick<T: Copy>(&mut self, choices: &[T]) -> T {
+    pub(super) fn pick<T: Copy>(&mut self, choices: &[T]) -> T {
         choices[self.index(choices.len())]
     }
 

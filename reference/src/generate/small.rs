@@ -2,8 +2,8 @@
 
 use super::line::{bytes_of, lines_of, Line};
 use super::random::Random;
-use crate::fast;
-use crate::job::{Job, MOST_RECTS};
+use crate::fast::{self, LoadSums};
+use crate::job::{overlap, Job, MOST_RECTS};
 use std::ops::Range;
 
 /// Longest side of a random small layout, but for those with long windows.
@@ -92,11 +92,6 @@ fn rects(random: &mut Random, size: u64) -> Vec<[u64; 4]> {
     rects
 }
 
-fn share_a_square(a: &[u64; 4], b: &[u64; 4]) -> bool {
-    let axis = |low: usize| a[low].max(b[low]) < a[low + 2].min(b[low + 2]);
-    axis(0) && axis(1)
-}
-
 /// Rectangles dropped at random, those that overlap left out.
 fn scattered(random: &mut Random, size: u64) -> Vec<[u64; 4]> {
     let mut rects: Vec<[u64; 4]> = Vec::new();
@@ -106,7 +101,7 @@ fn scattered(random: &mut Random, size: u64) -> Vec<[u64; 4]> {
         let width = random.between(1, longest.min(size - x));
         let height = random.between(1, longest.min(size - y));
         let rect = [x, y, x + width, y + height];
-        if !rects.iter().any(|other| share_a_square(other, &rect)) {
+        if !rects.iter().any(|other| overlap(other, &rect)) {
             rects.push(rect);
         }
     }
@@ -200,18 +195,6 @@ fn aimed_lower(random: &mut Random, job: &Job) -> u64 {
 /// Loads of the windows at all tile starts; on each axis a window has these
 /// places counted from the start, as far as there are tiles.
 fn window_loads(job: &Job, places: Range<usize>) -> impl Iterator<Item = u64> {
-    let tiles = job.tiles() as usize;
-    let drawn = fast::drawn_cover(job).tile_areas(job.tile_side(), job.tiles());
-    let loads: Vec<u64> = drawn.iter().zip(&job.fills).map(|(d, p)| d + p).collect();
-    let starts = tiles - job.cut as usize + 1;
-    let window = move |start: usize| {
-        let within = |start: usize| start + places.start..(start + places.end).min(tiles);
-        let (columns, rows) = (within(start % starts), within(start / starts));
-        rows.map(|row| {
-            let row = &loads[row * tiles..(row + 1) * tiles];
-            row[columns.clone()].iter().sum::<u64>()
-        })
-        .sum()
-    };
-    (0..starts * starts).map(window)
+    let sums = LoadSums::new(job, &fast::drawn_cover(job));
+    fast::tile_starts(job).map(move |start| sums.window(start, &places))
 }
