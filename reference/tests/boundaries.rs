@@ -6,6 +6,7 @@ use common::printed_by_both;
 use reference::answer::{answer, answer_by, printed, Method, Reply};
 use reference::generate::{boundary_jobs, large_job, large_jobs, Random};
 use reference::job::Refusal;
+use reference::outcome::End;
 use reference::{brute, fast};
 
 #[test]
@@ -141,6 +142,11 @@ fn heaviest_jobs_are_as_heavy_as_can_be() {
         let cover = fast::drawn_cover(job);
         assert!(cover.column_cuts().len() >= 512 && cover.row_cuts().len() >= 512);
     }
+    let soon = read("soon met");
+    let cover = fast::drawn_cover(&soon);
+    let greatest = fast::exact_run(&soon, &cover).max;
+    let zoom = fast::quick_run(&soon, &cover, greatest);
+    assert_eq!((zoom.end, zoom.levels), (End::Met, 2));
     let tiles = read("most tiles");
     assert_eq!(tiles.fills.len(), 4096);
     assert!(tiles.fills.iter().filter(|&&p| p > 0).count() > 3800);

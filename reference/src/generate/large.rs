@@ -20,6 +20,7 @@ pub fn large_jobs() -> Vec<LargeJob> {
     vec![
         named("different sides", different_sides()),
         named("most starts", most_starts()),
+        named("soon met", soon_met()),
         named("most tiles", most_tiles()),
         named("wide gaps", wide_gaps()),
         named("ragged starts", ragged_starts()),
@@ -97,6 +98,15 @@ fn most_starts() -> Job {
     };
     job.rects = (0..MOST_RECTS as u64).map(stripe).collect();
     job
+}
+
+/// The same stripes, for an accuracy that level 1 meets: the other levels and
+/// the exact search are not needed.
+fn soon_met() -> Job {
+    Job {
+        accuracy: 1000,
+        ..most_starts()
+    }
 }
 
 /// 4096 tiles, as many of them filled as the file has room for.
