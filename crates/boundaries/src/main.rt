@@ -12,7 +12,7 @@ fn show(path: &[u8]) {
     let mut file = io::large_buffer();
     let n = io::read_full(opened, &mut file);
     libc::close(opened);
-    let mut text = [0u8; 464];
+    let mut text = [0u8; unit::ANSWER_ROOM];
     let length = unit::report(&file[..n], &mut text);
     io::write_all(STDOUT_FILENO, &text[..length]);
 }

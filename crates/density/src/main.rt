@@ -8,7 +8,7 @@ use libc::STDOUT_FILENO;
 fn main() {
     let mut file = io::large_buffer();
     let n = io::read_full(STDIN_FILENO, &mut file);
-    let mut text = [0u8; 464];
+    let mut text = [0u8; unit::ANSWER_ROOM];
     let length = unit::report(&file[..n], &mut text);
     io::write_all(STDOUT_FILENO, &text[..length]);
 }

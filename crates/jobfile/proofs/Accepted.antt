@@ -20,15 +20,16 @@ use Rattle.fill.proofs.Loads.{tile-fillable}
 use Rattle.jobfile.specs.declared.Head.{Head}
 use Rattle.jobfile.specs.declared.Form.{Form}
 use Rattle.jobfile.specs.declared.Turn.the-variants.{Before}
-use Rattle.jobfile.specs.Limits.{mostShapes}
+use Rattle.jobfile.specs.Limits.{unitLimits}
 use Rattle.jobfile.specs.Forms.{tileSide, tilesAcross}
 use Rattle.jobfile.specs.Faults.{Standing, fitsLayout}
 use Rattle.jobfile.specs.File.{accepted, outcomeOf}
-use Rattle.jobfile.specs.Held.{tileCount, GoodShapes, Sound, tableOf, padded}
+use Rattle.jobfile.specs.Acceptance.{Good, none, next, AcceptedFile}
+use Rattle.jobfile.specs.Held.{rectsRoom, tileCount, GoodShapes, Sound, tableOf, padded}
 use Rattle.jobfile.proofs.Heads.{HeadFacts, head-facts, positive}
 use Rattle.jobfile.proofs.Tables.{length-table, rects-of-table, table-small}
-use Rattle.jobfile.proofs.Sound.{sound-after, sound-nothing}
-use Rattle.jobfile.proofs.Files.{Good, none, next, accepted-as}
+use Rattle.jobfile.proofs.Sound.{sound-after, sound-start}
+use Rattle.jobfile.proofs.Files.{acceptance}
 
 -- a rectangle has its corners in order, in the layout
 pub record InLayout (h : Head) (r : Rect) : Type 0 where
@@ -43,7 +44,7 @@ AllInLayout h (r ∷ rs) = InLayout h r × AllInLayout h rs
 
 pub record AcceptedFacts (st : Standing) : Type 0 where
   pub head : HeadFacts (st .head)
-  pub few : length (st .shapes) ≤ mostShapes
+  pub few : length (st .shapes) ≤ unitLimits .shapes
   pub inside : AllInLayout (st .head) (st .shapes)
   pub apart : Disjoint (st .shapes)
   pub drawn : Drawn (tableOf (st .shapes))
@@ -75,7 +76,7 @@ all-in-layout h [] g = tt
 all-in-layout h (r ∷ rs) g = (in-layout h r (g .1), all-in-layout h rs (g .2))
 
 -- the table of good rectangles is drawn
-table-drawn : (h : Head) (rs : List Rect) → GoodShapes h rs → Disjoint rs → length rs ≤ mostShapes → Drawn (tableOf rs)
+table-drawn : (h : Head) (rs : List Rect) → GoodShapes h rs → Disjoint rs → length rs ≤ unitLimits .shapes → Drawn (tableOf rs)
 table-drawn h rs g d l =
     record {
       few = omega (arith, length-table rs);
@@ -84,14 +85,14 @@ table-drawn h rs g d l =
     }
 
 -- good forms keep what is so
-good-sound : {st st′ : Standing} {fs : List Form} → Good st fs st′ → Sound st → Sound st′
+good-sound : {st st′ : Standing} {fs : List Form} → Good unitLimits st fs st′ → Sound st → Sound st′
 good-sound none s = s
-good-sound (next {st = x} {f = f} e g) s = good-sound g (sound-after x f s e)
+good-sound (next {st = x} {f = f} short e g) s = good-sound g (sound-after x f s e)
 
-pub accepted-sound : (file : List ℕ) (st : Standing) → outcomeOf file ≡ accepted st → Sound st
-accepted-sound file st e = good-sound (accepted-as file st e .good) sound-nothing
+pub accepted-sound : (file : List ℕ) (st : Standing) → outcomeOf unitLimits file ≡ accepted st → Sound st
+accepted-sound file st e = good-sound (acceptance unitLimits file .accepted-only-if st e .good) sound-start
 
-pub accepted-facts : (file : List ℕ) (st : Standing) → outcomeOf file ≡ accepted st → AcceptedFacts st
+pub accepted-facts : (file : List ℕ) (st : Standing) → outcomeOf unitLimits file ≡ accepted st → AcceptedFacts st
 accepted-facts file st e =
     record {
       head = head-facts (st .head) (s .headed headed);
@@ -107,15 +108,15 @@ accepted-facts file st e =
     s = accepted-sound file st e
 
     headed : st .turn ≡ Before → ⊥
-    headed b = let d = accepted-as file st e .ended in let z : _≡_ {A = ℕ} 0 1 = cc in omega arith
+    headed b = let d = acceptance unitLimits file .accepted-only-if st e .ended in let z : _≡_ {A = ℕ} 0 1 = cc in omega arith
 
 -- ---- the reader's tables, in which zeros stand behind
 
 pub padded-front : (n : ℕ) (s : List ℕ) → take (length s) (padded n s) ≡ s
 padded-front n s = take-at s (replicate (n - length s) 0) (length s) refl
 
-pub table-front : (rs : List Rect) → take (4 * length rs) (padded 1024 (tableOf rs)) ≡ tableOf rs
-table-front rs = take-at (tableOf rs) (replicate (1024 - length (tableOf rs)) 0) (4 * length rs) (length-table rs)
+pub table-front : (rs : List Rect) → take (4 * length rs) (padded rectsRoom (tableOf rs)) ≡ tableOf rs
+table-front rs = take-at (tableOf rs) (replicate (rectsRoom - length (tableOf rs)) 0) (4 * length rs) (length-table rs)
 
 -- ---- an amount is at most its tile's area
 

@@ -20,14 +20,14 @@ use Rattle.jobfile.specs.declared.Form.{Form}
 use Rattle.jobfile.specs.declared.Form.the-variants.{Unknown, Heading, Shape, Fill, End}
 use Rattle.jobfile.specs.declared.Turn.{Turn}
 use Rattle.jobfile.specs.declared.Turn.the-variants.{Before, Shapes, Fills, Done}
-use Rattle.jobfile.specs.Limits.{mostTiles}
+use Rattle.jobfile.specs.Limits.{unitLimits}
 use Rattle.jobfile.specs.Forms.{tilesAcross, agrees}
-use Rattle.jobfile.specs.Faults.{Standing, nothing, noHead, inTurn, lineFault, standsAfter}
-use Rattle.jobfile.specs.Held.{tileCount, standing, GoodHead, Sound, Held, withShape, Entered}
-use Rattle.jobfile.proofs.Tests.{unless-none}
+use Rattle.jobfile.specs.Faults.{Standing, beforeHead, noHead, inTurn, lineFault, standsAfter}
+use Rattle.jobfile.specs.Held.{rectsRoom, amountsRoom, tileCount, standing, GoodHead, Sound, Held, TileIn, withShape, Entered}
 use Rattle.jobfile.proofs.Heads.{agreement}
 use Rattle.jobfile.proofs.Tables.{stored-rects, stored-behind, stored-length, zeros, take-zeros, drop-zeros, zeros-later}
-use Rattle.jobfile.proofs.Sound.{NoFault, no-fault, no-shape-fault, NoFillFault, no-fill-fault, after-head, sound-after}
+use Rattle.jobfile.proofs.Faultless.{check-passes, NoFault, no-fault, no-shape-fault, NoFillFault, no-fill-fault}
+use Rattle.jobfile.proofs.Sound.{after-head, sound-after}
 
 heading-turn : (t : Turn) (h : Head) → inTurn t (Heading h) ≡ true → t ≡ Before
 heading-turn Before h e = refl
@@ -36,10 +36,10 @@ heading-turn Fills h e = absurd (false≢true e)
 heading-turn Done h e = absurd (false≢true e)
 
 -- a good head has at most 64 tiles across, so at most 4,096
-pub few-across : (h : Head) → agrees h ≡ true → tilesAcross h ≤ mostTiles
-few-across h e = agreement h e .few
+pub few-across : (h : Head) → agrees unitLimits h ≡ true → tilesAcross h ≤ unitLimits .tiles
+few-across h e = agreement unitLimits h e .few
 
-pub few-tiles : (h : Head) → agrees h ≡ true → tileCount h ≤ 4096
+pub few-tiles : (h : Head) → agrees unitLimits h ≡ true → tileCount h ≤ amountsRoom
 few-tiles h e = mul-le-mul (few-across h e) (few-across h e)
 
 -- a state and its tables hold as many rectangles as the state counts
@@ -49,18 +49,18 @@ held-count s rects amounts k =
 
 -- before the head both tables are all 0
 record Empty (s : State) (rects amounts : List ℕ) : Type 0 where
-  pub rects-zero : rects ≡ zeros 1024
-  pub amounts-zero : amounts ≡ zeros 4096
+  pub rects-zero : rects ≡ zeros rectsRoom
+  pub amounts-zero : amounts ≡ zeros amountsRoom
 
 empty-before : (s : State) (rects amounts : List ℕ) → Held s rects amounts → s .turn ≡ Before → Empty s rects amounts
 unfolding rectsOf
 empty-before s rects amounts k e =
     record {
-      rects-zero = subst (λ (n : ℕ). drop (4 * n) rects ≡ zeros (1024 - 4 * n)) none (k .behind);
-      amounts-zero = subst (λ (h : Head). drop (tileCount h) amounts ≡ zeros (4096 - tileCount h)) bare (k .beyond);
+      rects-zero = subst (λ (n : ℕ). drop (4 * n) rects ≡ zeros (rectsRoom - 4 * n)) none (k .behind);
+      amounts-zero = subst (λ (h : Head). drop (tileCount h) amounts ≡ zeros (amountsRoom - tileCount h)) bare (k .beyond);
     }
   where
-    empty : standing s rects amounts ≡ nothing
+    empty : standing s rects amounts ≡ beforeHead
     empty = k .sound .start e
 
     none : s .count ≡ 0
@@ -71,13 +71,13 @@ empty-before s rects amounts k e =
 
 -- the state and its tables hold a line's outcome where the tables are clean and what stands is what stands after the line
 entered : (s : State) (rects amounts : List ℕ) (f : Form) (s′ : State) (rects′ amounts′ : List ℕ) → Held s rects amounts →
-    lineFault (standing s rects amounts) f ≡ 0 → standing s′ rects′ amounts′ ≡ standsAfter (standing s rects amounts) f →
+    lineFault unitLimits (standing s rects amounts) f ≡ 0 → standing s′ rects′ amounts′ ≡ standsAfter (standing s rects amounts) f →
     (Sound (standing s′ rects′ amounts′) → Held s′ rects′ amounts′) → Entered s rects amounts f s′ rects′ amounts′
 entered s rects amounts f s′ rects′ amounts′ k e same held =
     record { stands = same; held = held (rw same (sound-after (standing s rects amounts) f (k .sound) e)) }
 
 module _ (s : State) (rects amounts : List ℕ) (k : Held s rects amounts) where
-  on-heading : (h : Head) → lineFault (standing s rects amounts) (Heading h) ≡ 0 →
+  on-heading : (h : Head) → lineFault unitLimits (standing s rects amounts) (Heading h) ≡ 0 →
       Entered s rects amounts (Heading h) (record { turn = Shapes; head = h; count = 0 }) rects amounts
   unfolding standsAfter rectsOf
   on-heading h e =
@@ -90,31 +90,31 @@ module _ (s : State) (rects amounts : List ℕ) (k : Held s rects amounts) where
         count = lit≤ tt;
         tiles = few;
         behind = z .rects-zero;
-        beyond = ap (drop (tileCount h)) (z .amounts-zero) ∙ drop-zeros (tileCount h) 4096;
+        beyond = ap (drop (tileCount h)) (z .amounts-zero) ∙ drop-zeros (tileCount h) amountsRoom;
         sound = sound;
       })
     where
-      g : NoFault (standing s rects amounts) (Heading h)
-      g = no-fault (standing s rects amounts) (Heading h) e
+      g : NoFault unitLimits (standing s rects amounts) (Heading h)
+      g = no-fault unitLimits (standing s rects amounts) (Heading h) e
 
-      few : tileCount h ≤ 4096
-      few = few-tiles h (unless-none (agrees h) 5 0 (lit< tt) (g .own) .0)
+      few : tileCount h ≤ amountsRoom
+      few = few-tiles h (check-passes (agrees unitLimits h) 5 0 (lit< tt) (g .own) .0)
 
       z : Empty s rects amounts
       z = empty-before s rects amounts k (heading-turn (s .turn) h (g .turn))
 
       clean : take (tileCount h) amounts ≡ zeros (tileCount h)
-      clean = ap (take (tileCount h)) (z .amounts-zero) ∙ take-zeros (tileCount h) 4096 few
+      clean = ap (take (tileCount h)) (z .amounts-zero) ∙ take-zeros (tileCount h) amountsRoom few
 
-  shape-room : (r : Rect) → lineFault (standing s rects amounts) (Shape r) ≡ 0 → s .count < 256
+  shape-room : (r : Rect) → lineFault unitLimits (standing s rects amounts) (Shape r) ≡ 0 → s .count < unitLimits .shapes
   shape-room r e =
       omega (
         arith,
         held-count s rects amounts k,
-        no-shape-fault (standing s rects amounts) r (no-fault (standing s rects amounts) (Shape r) e .own) .room,
+        no-shape-fault unitLimits (standing s rects amounts) r (no-fault unitLimits (standing s rects amounts) (Shape r) e .own) .room,
       )
 
-  on-shape : (r : Rect) → lineFault (standing s rects amounts) (Shape r) ≡ 0 →
+  on-shape : (r : Rect) → lineFault unitLimits (standing s rects amounts) (Shape r) ≡ 0 →
       Entered s rects amounts (Shape r) (record { turn = Shapes; head = s .head; count = s .count + 1 }) (withShape rects (s .count) r) amounts
   unfolding standsAfter
   on-shape r e =
@@ -135,16 +135,16 @@ module _ (s : State) (rects amounts : List ℕ) (k : Held s rects amounts) where
       space : 4 * s .count + 4 ≤ length rects
       space = omega (arith, shape-room r e, k .room)
 
-      later : drop (4 * suc (s .count)) rects ≡ zeros (1024 - 4 * suc (s .count))
+      later : drop (4 * suc (s .count)) rects ≡ zeros (rectsRoom - 4 * suc (s .count))
       later =
           let a : 4 * suc (s .count) ≡ 4 * s .count + 4 = omega arith in
-          let b : 1024 - 4 * s .count - 4 ≡ 1024 - (4 * s .count + 4) = omega arith in
-          rw a (zeros-later rects (4 * s .count) 4 (1024 - 4 * s .count) (k .behind) ∙ ap zeros b)
+          let b : rectsRoom - 4 * s .count - 4 ≡ rectsRoom - (4 * s .count + 4) = omega arith in
+          rw a (zeros-later rects (4 * s .count) 4 (rectsRoom - 4 * s .count) (k .behind) ∙ ap zeros b)
 
-  fill-good : (i j p : ℕ) → lineFault (standing s rects amounts) (Fill i j p) ≡ 0 → NoFillFault (standing s rects amounts) i j p
-  fill-good i j p e = no-fill-fault (standing s rects amounts) i j p (no-fault (standing s rects amounts) (Fill i j p) e .own)
+  fill-good : (i j p : ℕ) → lineFault unitLimits (standing s rects amounts) (Fill i j p) ≡ 0 → NoFillFault (standing s rects amounts) i j p
+  fill-good i j p e = no-fill-fault (standing s rects amounts) i j p (no-fault unitLimits (standing s rects amounts) (Fill i j p) e .own)
 
-  on-fill : (i j p : ℕ) → lineFault (standing s rects amounts) (Fill i j p) ≡ 0 →
+  on-fill : (i j p : ℕ) → lineFault unitLimits (standing s rects amounts) (Fill i j p) ≡ 0 →
       Entered s rects amounts (Fill i j p) (record { turn = Fills; head = s .head; count = s .count }) rects (set amounts (tileIndex (tilesAcross (s .head)) i j) p)
   unfolding standsAfter
   on-fill i j p e =
@@ -165,7 +165,7 @@ module _ (s : State) (rects amounts : List ℕ) (k : Held s rects amounts) where
       place : tileIndex (tilesAcross (s .head)) i j < tileCount (s .head)
       place = digits-lt (fill-good i j p e .row) (fill-good i j p e .column)
 
-  on-end : lineFault (standing s rects amounts) End ≡ 0 →
+  on-end : lineFault unitLimits (standing s rects amounts) End ≡ 0 →
       Entered s rects amounts End (record { turn = Done; head = s .head; count = s .count }) rects amounts
   unfolding standsAfter
   on-end e =
@@ -174,25 +174,25 @@ module _ (s : State) (rects amounts : List ℕ) (k : Held s rects amounts) where
       record { room = k .room; cells = k .cells; count = k .count; tiles = k .tiles; behind = k .behind; beyond = k .beyond; sound = sound })
 
   -- by the form of the line, as the code knows it
-  pub enter-unknown : (f : Form) → f ≡ Unknown → lineFault (standing s rects amounts) f ≡ 0 → Entered s rects amounts f s rects amounts
-  enter-unknown f q e = absurd (false≢true (no-fault (standing s rects amounts) Unknown (rw q at e) .spelled))
+  pub enter-unknown : (f : Form) → f ≡ Unknown → lineFault unitLimits (standing s rects amounts) f ≡ 0 → Entered s rects amounts f s rects amounts
+  enter-unknown f q e = absurd (false≢true (no-fault unitLimits (standing s rects amounts) Unknown (rw q at e) .spelled))
 
-  pub enter-heading : (f : Form) (h : Head) → f ≡ Heading h → lineFault (standing s rects amounts) f ≡ 0 →
+  pub enter-heading : (f : Form) (h : Head) → f ≡ Heading h → lineFault unitLimits (standing s rects amounts) f ≡ 0 →
       Entered s rects amounts f (record { turn = Shapes; head = h; count = 0 }) rects amounts
   enter-heading f h q e = rw q (on-heading h (rw q at e))
 
-  pub shape-space : (f : Form) (r : Rect) → f ≡ Shape r → lineFault (standing s rects amounts) f ≡ 0 → 4 * s .count + 4 ≤ length rects
+  pub shape-space : (f : Form) (r : Rect) → f ≡ Shape r → lineFault unitLimits (standing s rects amounts) f ≡ 0 → 4 * s .count + 4 ≤ length rects
   shape-space f r q e = omega (arith, shape-room r (rw q at e), k .room)
 
-  pub enter-shape : (f : Form) (r : Rect) (rects′ : List ℕ) → f ≡ Shape r → lineFault (standing s rects amounts) f ≡ 0 →
+  pub enter-shape : (f : Form) (r : Rect) (rects′ : List ℕ) → f ≡ Shape r → lineFault unitLimits (standing s rects amounts) f ≡ 0 →
       rects′ ≡ withShape rects (s .count) r →
       Entered s rects amounts f (record { turn = Shapes; head = s .head; count = s .count + 1 }) rects′ amounts
   enter-shape f r rects′ q e new = rw (q, new) (on-shape r (rw q at e))
 
-  pub fill-space : (f : Form) (i j p : ℕ) → f ≡ Fill i j p → lineFault (standing s rects amounts) f ≡ 0 →
-      ((tilesAcross (s .head) ≤ 64) × (i < tilesAcross (s .head)) × (j < tilesAcross (s .head))) × (tileIndex (tilesAcross (s .head)) i j < length amounts)
+  pub fill-space : (f : Form) (i j p : ℕ) → f ≡ Fill i j p → lineFault unitLimits (standing s rects amounts) f ≡ 0 →
+      TileIn (s .head) i j × (tileIndex (tilesAcross (s .head)) i j < length amounts)
   fill-space f i j p q e =
-      ((few-across (s .head) (head .agreement), g .column, g .row), omega (arith, digits-lt (g .row) (g .column), few-tiles (s .head) (head .agreement), k .cells))
+      (record { few = few-across (s .head) (head .agreement); column = g .column; row = g .row }, omega (arith, digits-lt (g .row) (g .column), few-tiles (s .head) (head .agreement), k .cells))
     where
       g : NoFillFault (standing s rects amounts) i j p
       g = fill-good i j p (rw q at e)
@@ -200,18 +200,18 @@ module _ (s : State) (rects amounts : List ℕ) (k : Held s rects amounts) where
       head : GoodHead (s .head)
       head =
           k .sound .headed
-          (after-head (s .turn) (Fill i j p) (no-fault (standing s rects amounts) (Fill i j p) (rw q at e) .turn)
+          (after-head (s .turn) (Fill i j p) (no-fault unitLimits (standing s rects amounts) (Fill i j p) (rw q at e) .turn)
           (λ h n. let z : _≡_ {A = ℕ} 0 1 = cc in omega arith))
 
-  pub enter-fill : (f : Form) (i j p : ℕ) (amounts′ : List ℕ) → f ≡ Fill i j p → lineFault (standing s rects amounts) f ≡ 0 →
+  pub enter-fill : (f : Form) (i j p : ℕ) (amounts′ : List ℕ) → f ≡ Fill i j p → lineFault unitLimits (standing s rects amounts) f ≡ 0 →
       amounts′ ≡ set amounts (tileIndex (tilesAcross (s .head)) i j) p →
       Entered s rects amounts f (record { turn = Fills; head = s .head; count = s .count }) rects amounts′
   enter-fill f i j p amounts′ q e new = rw (q, new) (on-fill i j p (rw q at e))
 
-  pub enter-end : (f : Form) → f ≡ End → lineFault (standing s rects amounts) f ≡ 0 →
+  pub enter-end : (f : Form) → f ≡ End → lineFault unitLimits (standing s rects amounts) f ≡ 0 →
       Entered s rects amounts f (record { turn = Done; head = s .head; count = s .count }) rects amounts
   enter-end f q e = rw q (on-end (rw q at e))
 
--- the place of a tile in a table of at most 64 by 64 fits the code's numbers
-pub place-small : (t i j n : ℕ) → t ≤ 64 → i < t → j < t → n ≡ t → j * n + i < 4096
-place-small t i j n h hi hj e = rw e (lt-of-lt-of-le (digits-lt hj hi) (mul-le-mul h h))
+-- the place of a tile in its table fits the code's numbers
+pub place-small : (h : Head) (i j n : ℕ) → TileIn h i j → n ≡ tilesAcross h → j * n + i < amountsRoom
+place-small h i j n k e = rw e (lt-of-lt-of-le (digits-lt (k .row) (k .column)) (mul-le-mul (k .few) (k .few)))

@@ -1,8 +1,8 @@
 -- What a file comes to, in terms of the forms that it spells: accepted exactly if it spells good forms up to an (end), else refused with its
--- first fault.
+-- first fault. For all limits.
 use Prim.Native.Nat.{ℕ, zero, suc, _+_, _≤_, _<_}
 use mathlib.Core.Path.{_≡_, refl, sym, ap, _∙_, subst}
-use mathlib.Core.Bool.{Bool, true, false}
+use mathlib.Core.Bool.{Bool, true, false, false≢true}
 use mathlib.Core.List.{List, [], _∷_, _++_, append-assoc, append-nil}
 use native.Mathlib.Nat.{zero-add, le-refl}
 use native.Mathlib.Omega.{arith}
@@ -11,53 +11,61 @@ use lib.Seq.{take-all}
 use lib.ListN.{length, drop, length-drop}
 use borrow.Author.Tests.{eqb-true, eqb-false, leb-true, leb-false, ltb-true, ltb-false}
 use Rattle.spelling.specs.Text.{inFront, parts}
+use Rattle.spelling.specs.Decimal.{EachShort}
 use Rattle.spelling.specs.Scanning.{lineLength}
 use Rattle.jobfile.specs.declared.Form.{Form}
 use Rattle.jobfile.specs.declared.Turn.{Turn}
 use Rattle.jobfile.specs.declared.Turn.the-variants.{Before, Shapes, Fills, Done}
-use Rattle.jobfile.specs.Limits.{mostBytes}
+use Rattle.jobfile.specs.Limits.{Limits}
 use Rattle.jobfile.specs.Forms.{formOf}
-use Rattle.jobfile.specs.Faults.{Standing, nothing, lineFault, standsAfter}
+use Rattle.jobfile.specs.Faults.{Standing, beforeHead, known, lineFault, standsAfter}
 use Rattle.jobfile.specs.File.{Outcome, refused, accepted, atEnd, afterLast, readLines, outcomeOf}
+use Rattle.jobfile.specs.Acceptance.{numbersOf, spellingOf, Spells, formsText, feedless, Good, none, next, LineFault, spelled, unspelled}
+use Rattle.jobfile.specs.Acceptance.{FirstFault, faulty, unfed, unended, AcceptedFile, RefusedFile, long, lines, Acceptance}
 use Rattle.jobfile.specs.Held.{firstLine, firstFault}
-use Rattle.jobfile.proofs.Spelled.{spellingOf, form-spelled, spelling-read, in-range-writable, feedless, feedless-first, spelling-feedless}
-use Rattle.jobfile.proofs.Sound.{no-fault}
+use Rattle.jobfile.proofs.Spelled.{form-spelled, spelling-read, spells-read, feedless-first, spelling-feedless}
+use Rattle.jobfile.proofs.Faultless.{no-fault}
 use Rattle.jobfile.proofs.Lines.{good-next, bad-next, read-last, good-fed, fed-fault, unfed-fault, line-good, line-bad, too-long, short-enough}
-
--- ---- the statement
-
--- the text of forms: each one's spelling with its line feed
-unfoldable pub textOf : List Form → List ℕ
-textOf [] = []
-textOf (f ∷ fs) = spellingOf f ++ (10 ∷ textOf fs)
-
--- every form is good where it stands: from the first standing they lead to the second
-pub data Good : Standing → List Form → Standing → Type 0 where
-  none : {st : Standing} → Good st [] st
-  next : {st st′ : Standing} {f : Form} {fs : List Form} → lineFault st f ≡ 0 → Good (standsAfter st f) fs st′ → Good st (f ∷ fs) st′
-
--- what a text comes to where st stands before it and its first line is line k
-pub data Comes (st : Standing) (k : ℕ) (s : List ℕ) : Outcome → Type 0 where
-  -- good forms up to an (end)
-  ends : (fs : List Form) {st′ : Standing} → s ≡ textOf fs → Good st fs st′ → st′ .turn ≡ Done → Comes st k s (accepted st′)
-  -- good forms and then a line with a fault
-  faulty : (fs : List Form) {st′ : Standing} (line after : List ℕ) → s ≡ textOf fs ++ (line ++ (10 ∷ after)) → feedless line ≡ true → Good st fs st′ →
-      (lineFault st′ (formOf line) ≡ 0 → ⊥) → Comes st k s (refused (lineFault st′ (formOf line)) (length fs + k))
-  -- good forms and then a line without a line feed
-  unfed : (fs : List Form) {st′ : Standing} (line : List ℕ) → s ≡ textOf fs ++ line → feedless line ≡ true → 0 < length line → Good st fs st′ →
-      Comes st k s (refused 2 (length fs + k))
-  -- good forms and no (end)
-  unended : (fs : List Form) {st′ : Standing} → s ≡ textOf fs → Good st fs st′ → (st′ .turn ≡ Done → ⊥) → Comes st k s (refused 12 (length fs + k))
 
 -- ---- a good form is a good line
 
 -- a form without a fault is read from its spelling
-good-read : (st : Standing) (f : Form) → lineFault st f ≡ 0 → formOf (spellingOf f) ≡ f
-good-read st f e = let g = no-fault st f e in spelling-read f (in-range-writable f (g .spelled) (g .range))
+good-read : (m : Limits) (st : Standing) (f : Form) → EachShort (m .digits) (numbersOf f) → lineFault m st f ≡ 0 → formOf m (spellingOf f) ≡ f
+good-read m st f short e = spelling-read m f (no-fault m st f e .spelled) short
 
 -- a line without a fault spells its form
-good-spelled : (st : Standing) (line : List ℕ) → lineFault st (formOf line) ≡ 0 → line ≡ spellingOf (formOf line)
-good-spelled st line e = form-spelled line (no-fault st (formOf line) e .spelled)
+good-spells : (m : Limits) (st : Standing) (line : List ℕ) → lineFault m st (formOf m line) ≡ 0 → Spells m line (formOf m line)
+good-spells m st line e = form-spelled m line (no-fault m st (formOf m line) e .spelled)
+
+-- ---- the fault of a line is that of the form that is read from it
+
+unknown-fault : (m : Limits) (st : Standing) (f : Form) → known f ≡ false → lineFault m st f ≡ 2
+unfolding lineFault
+unknown-fault m st f e = rw e
+
+line-fault : (m : Limits) (st : Standing) (line : List ℕ) → LineFault m st line (lineFault m st (formOf m line))
+line-fault m st line = go (known (formOf m line)) refl
+  where
+    go : (x : Bool) → known (formOf m line) ≡ x → LineFault m st line (lineFault m st (formOf m line))
+    go true e = spelled (form-spelled m line e)
+    go false e =
+        rw (unknown-fault m st (formOf m line) e)
+        (unspelled (λ f s. false≢true (sym e ∙ ap known (spells-read m line f s) ∙ s .form)))
+
+line-fault-is : (m : Limits) (st : Standing) (line : List ℕ) (number : ℕ) → LineFault m st line number → lineFault m st (formOf m line) ≡ number
+line-fault-is m st line number (spelled {f = f} s) = ap (lineFault m st) (spells-read m line f s)
+line-fault-is m st line number (unspelled no-form) = go (known (formOf m line)) refl
+  where
+    go : (x : Bool) → known (formOf m line) ≡ x → lineFault m st (formOf m line) ≡ 2
+    go true e = absurd (no-form (formOf m line) (form-spelled m line e))
+    go false e = unknown-fault m st (formOf m line) e
+
+-- ---- a text as it is read
+
+-- what a text comes to where st stands before it and its first line is line k: good forms up to an (end), or a first fault
+data Comes (m : Limits) (st : Standing) (k : ℕ) (s : List ℕ) : Outcome → Type 0 where
+  ends : (fs : List Form) {st′ : Standing} → s ≡ formsText fs → Good m st fs st′ → st′ .turn ≡ Done → Comes m st k s (accepted st′)
+  faults : {number line : ℕ} → FirstFault m st k s number line → Comes m st k s (refused number line)
 
 -- the pieces of a text that begins with a line
 parts-first : (line s : List ℕ) → feedless line ≡ true → parts (line ++ (10 ∷ s)) ≡ line ∷ parts s
@@ -70,20 +78,20 @@ later : (n k : ℕ) → n + suc k ≡ suc n + k
 later n k = omega arith
 
 -- good forms are passed
-pub pass : {st st′ : Standing} {fs : List Form} → Good st fs st′ → (k : ℕ) (rest : List ℕ) →
-    readLines st k (parts (textOf fs ++ rest)) ≡ readLines st′ (length fs + k) (parts rest)
-unfolding textOf
-pass (none {st = x}) k rest = ap (λ (n : ℕ). readLines x n (parts rest)) (sym (zero-add k))
-pass (next {st = x} {st′ = y} {f = f} {fs = fs} e g) k rest =
-    ap (λ (t : List ℕ). readLines x k (parts t)) (append-assoc (spellingOf f) (10 ∷ textOf fs) rest)
-    ∙ ap (readLines x k) (parts-first (spellingOf f) (textOf fs ++ rest) (spelling-feedless f))
-    ∙ good-next x k (spellingOf f) (textOf fs ++ rest) (rw same e)
-    ∙ ap (λ (h : Form). readLines (standsAfter x h) (suc k) (parts (textOf fs ++ rest))) same
+pass : {m : Limits} {st st′ : Standing} {fs : List Form} → Good m st fs st′ → (k : ℕ) (rest : List ℕ) →
+    readLines m st k (parts (formsText fs ++ rest)) ≡ readLines m st′ (length fs + k) (parts rest)
+unfolding formsText
+pass {m = m} (none {st = x}) k rest = ap (λ (n : ℕ). readLines m x n (parts rest)) (sym (zero-add k))
+pass {m = m} (next {st = x} {st′ = y} {f = f} {fs = fs} short e g) k rest =
+    ap (λ (t : List ℕ). readLines m x k (parts t)) (append-assoc (spellingOf f) (10 ∷ formsText fs) rest)
+    ∙ ap (readLines m x k) (parts-first (spellingOf f) (formsText fs ++ rest) (spelling-feedless f))
+    ∙ good-next m x k (spellingOf f) (formsText fs ++ rest) (rw same e)
+    ∙ ap (λ (h : Form). readLines m (standsAfter x h) (suc k) (parts (formsText fs ++ rest))) same
     ∙ pass g (suc k) rest
-    ∙ ap (λ (n : ℕ). readLines y n (parts rest)) (later (length fs) k)
+    ∙ ap (λ (n : ℕ). readLines m y n (parts rest)) (later (length fs) k)
   where
-    same : formOf (spellingOf f) ≡ f
-    same = good-read x f e
+    same : formOf m (spellingOf f) ≡ f
+    same = good-read m x f short e
 
 -- the end of a text where no (end) was read
 at-end : (t : Turn) (k : ℕ) (st : Standing) → (t ≡ Done → ⊥) → atEnd t k st ≡ refused 12 k
@@ -103,21 +111,30 @@ after-some st k [] h = absurd (omega arith)
 after-some st k (b ∷ s) h = refl
 
 -- nothing is left after good forms
-passed : {st st′ : Standing} {fs : List Form} (k : ℕ) (s : List ℕ) → s ≡ textOf fs → Good st fs st′ →
-    readLines st k (parts s) ≡ atEnd (st′ .turn) (length fs + k) st′
+passed : {m : Limits} {st st′ : Standing} {fs : List Form} (k : ℕ) (s : List ℕ) → s ≡ formsText fs → Good m st fs st′ →
+    readLines m st k (parts s) ≡ atEnd (st′ .turn) (length fs + k) st′
 unfolding parts
-passed {st = x} {st′ = y} {fs = fs} k s e g =
-    ap (λ (t : List ℕ). readLines x k (parts t)) (e ∙ sym (append-nil (textOf fs))) ∙ pass g k [] ∙ read-last y (length fs + k) []
+passed {m = m} {st = x} {st′ = y} {fs = fs} k s e g =
+    ap (λ (t : List ℕ). readLines m x k (parts t)) (e ∙ sym (append-nil (formsText fs))) ∙ pass g k [] ∙ read-last m y (length fs + k) []
 
-came : {st : Standing} {k : ℕ} {s : List ℕ} {o : Outcome} → Comes st k s o → readLines st k (parts s) ≡ o
-came {k = k} {s = s} (ends fs {st′ = y} e g d) = passed k s e g ∙ ap (λ (t : Turn). atEnd t (length fs + k) y) d
-came {st = x} {k = k} {s = s} (faulty fs {st′ = y} line after e f g n) =
-    ap (λ (t : List ℕ). readLines x k (parts t)) e ∙ pass g k (line ++ (10 ∷ after))
-    ∙ ap (readLines y (length fs + k)) (parts-first line after f) ∙ bad-next y (length fs + k) line after n
-came {st = x} {k = k} {s = s} (unfed fs {st′ = y} line e f h g) =
-    ap (λ (t : List ℕ). readLines x k (parts t)) e ∙ pass g k line
-    ∙ ap (readLines y (length fs + k)) (parts-feedless line f) ∙ read-last y (length fs + k) line ∙ after-some y (length fs + k) line h
-came {k = k} {s = s} (unended fs {st′ = y} e g n) = passed k s e g ∙ at-end (y .turn) (length fs + k) y n
+-- something is left after good forms
+left : {m : Limits} {st st′ : Standing} {fs : List Form} (k : ℕ) (s rest : List ℕ) → s ≡ formsText fs ++ rest → Good m st fs st′ →
+    readLines m st k (parts s) ≡ readLines m st′ (length fs + k) (parts rest)
+left {m = m} {st = x} k s rest e g = ap (λ (t : List ℕ). readLines m x k (parts t)) e ∙ pass g k rest
+
+first-fault : {m : Limits} {st : Standing} {k : ℕ} {s : List ℕ} {number line : ℕ} → FirstFault m st k s number line →
+    readLines m st k (parts s) ≡ refused number line
+first-fault {m = m} {k = k} {s = s} (faulty fs {st′ = y} {number = number} line after e f g fault n) =
+    left k s (line ++ (10 ∷ after)) e g
+    ∙ ap (readLines m y (length fs + k)) (parts-first line after f)
+    ∙ bad-next m y (length fs + k) line after (λ z. n (sym same ∙ z))
+    ∙ ap (λ (i : ℕ). refused i (length fs + k)) same
+  where
+    same : lineFault m y (formOf m line) ≡ number
+    same = line-fault-is m y line number fault
+first-fault {m = m} {k = k} {s = s} (unfed fs {st′ = y} line e f h g) =
+    left k s line e g ∙ ap (readLines m y (length fs + k)) (parts-feedless line f) ∙ read-last m y (length fs + k) line ∙ after-some y (length fs + k) line h
+first-fault {k = k} {s = s} (unended fs {st′ = y} e g n) = passed k s e g ∙ at-end (y .turn) (length fs + k) y n
 
 -- ---- every text comes to something
 
@@ -152,141 +169,140 @@ feedless-last : (s : List ℕ) → length s ≤ lineLength s → feedless s ≡ 
 feedless-last s h = subst (λ (t : List ℕ). feedless t ≡ true) (take-all (lineLength s) s h) (feedless-line s)
 
 -- where nothing is left
-comes-end : (st : Standing) (k : ℕ) → Comes st k [] (atEnd (st .turn) k st)
-unfolding textOf
-comes-end st k = go (st .turn) refl
+comes-end : (m : Limits) (st : Standing) (k : ℕ) → Comes m st k [] (atEnd (st .turn) k st)
+unfolding formsText
+comes-end m st k = go (st .turn) refl
   where
-    none-yet : (st .turn ≡ Done → ⊥) → Comes st k [] (refused 12 k)
-    none-yet n = subst (λ (m : ℕ). Comes st k [] (refused 12 m)) (zero-add k) (unended [] refl none n)
+    none-yet : (st .turn ≡ Done → ⊥) → Comes m st k [] (refused 12 k)
+    none-yet n = subst (λ (i : ℕ). Comes m st k [] (refused 12 i)) (zero-add k) (faults (unended [] refl none n))
 
-    go : (t : Turn) → st .turn ≡ t → Comes st k [] (atEnd t k st)
+    go : (t : Turn) → st .turn ≡ t → Comes m st k [] (atEnd t k st)
     go Before e = none-yet (λ d. let z : _≡_ {A = ℕ} 0 1 = cc in omega arith)
     go Shapes e = none-yet (λ d. let z : _≡_ {A = ℕ} 0 1 = cc in omega arith)
     go Fills e = none-yet (λ d. let z : _≡_ {A = ℕ} 0 1 = cc in omega arith)
     go Done e = ends [] refl none e
 
 -- one good form more in front
-form-first : (f : Form) (fs : List Form) (s rest : List ℕ) → s ≡ textOf fs ++ rest → spellingOf f ++ (10 ∷ s) ≡ textOf (f ∷ fs) ++ rest
-unfolding textOf
-form-first f fs s rest e = ap (λ (u : List ℕ). spellingOf f ++ (10 ∷ u)) e ∙ sym (append-assoc (spellingOf f) (10 ∷ textOf fs) rest)
+form-first : (f : Form) (fs : List Form) (s rest : List ℕ) → s ≡ formsText fs ++ rest → spellingOf f ++ (10 ∷ s) ≡ formsText (f ∷ fs) ++ rest
+unfolding formsText
+form-first f fs s rest e = ap (λ (u : List ℕ). spellingOf f ++ (10 ∷ u)) e ∙ sym (append-assoc (spellingOf f) (10 ∷ formsText fs) rest)
 
-comes-next : (st : Standing) (k : ℕ) (f : Form) (s : List ℕ) (o : Outcome) → lineFault st f ≡ 0 → Comes (standsAfter st f) (suc k) s o →
-    Comes st k (spellingOf f ++ (10 ∷ s)) o
-unfolding textOf
-comes-next st k f s o e (ends fs t g d) = ends (f ∷ fs) (ap (λ (u : List ℕ). spellingOf f ++ (10 ∷ u)) t) (next e g) d
-comes-next st k f s o e (faulty fs line after t n g z) =
-    rw (later (length fs) k) (faulty (f ∷ fs) line after (form-first f fs s (line ++ (10 ∷ after)) t) n (next e g) z)
-comes-next st k f s o e (unfed fs line t n h g) = rw (later (length fs) k) (unfed (f ∷ fs) line (form-first f fs s line t) n h (next e g))
-comes-next st k f s o e (unended fs t g n) =
-    rw (later (length fs) k) (unended (f ∷ fs) (ap (λ (u : List ℕ). spellingOf f ++ (10 ∷ u)) t) (next e g) n)
+module _ (m : Limits) (st : Standing) (k : ℕ) (f : Form) (short : EachShort (m .digits) (numbersOf f)) (e : lineFault m st f ≡ 0) (s : List ℕ) where
+  fault-next : (number line : ℕ) → FirstFault m (standsAfter st f) (suc k) s number line → FirstFault m st k (spellingOf f ++ (10 ∷ s)) number line
+  unfolding formsText
+  fault-next number line (faulty fs text after t n g fault z) =
+      rw (later (length fs) k) (faulty (f ∷ fs) text after (form-first f fs s (text ++ (10 ∷ after)) t) n (next short e g) fault z)
+  fault-next number line (unfed fs text t n h g) = rw (later (length fs) k) (unfed (f ∷ fs) text (form-first f fs s text t) n h (next short e g))
+  fault-next number line (unended fs t g n) =
+      rw (later (length fs) k) (unended (f ∷ fs) (ap (λ (u : List ℕ). spellingOf f ++ (10 ∷ u)) t) (next short e g) n)
+
+  comes-next : (o : Outcome) → Comes m (standsAfter st f) (suc k) s o → Comes m st k (spellingOf f ++ (10 ∷ s)) o
+  unfolding formsText
+  comes-next o (ends fs t g d) = ends (f ∷ fs) (ap (λ (u : List ℕ). spellingOf f ++ (10 ∷ u)) t) (next short e g) d
+  comes-next o (faults {number = i} {line = j} c) = faults (fault-next i j c)
 
 -- a faulty first line
-comes-bad : (st : Standing) (k : ℕ) (s : List ℕ) → 0 < length s → (firstFault st s ≡ 0 → ⊥) → Comes st k s (refused (firstFault st s) k)
-unfolding textOf
-comes-bad st k s h n = subst (λ (m : ℕ). Comes st k s (refused (firstFault st s) m)) (zero-add k) (go (ltb (lineLength s) (length s)) refl)
+comes-bad : (m : Limits) (st : Standing) (k : ℕ) (s : List ℕ) → 0 < length s → (firstFault m st s ≡ 0 → ⊥) → FirstFault m st k s (firstFault m st s) k
+unfolding formsText
+comes-bad m st k s h n = subst (FirstFault m st k s (firstFault m st s)) (zero-add k) (go (ltb (lineLength s) (length s)) refl)
   where
-    go : (x : Bool) → ltb (lineLength s) (length s) ≡ x → Comes st k s (refused (firstFault st s) (0 + k))
+    go : (x : Bool) → ltb (lineLength s) (length s) ≡ x → FirstFault m st k s (firstFault m st s) (0 + k)
     go true q =
-        let f = fed-fault st k s (ltb-true (lineLength s) (length s) q) in
+        let fed = ltb-true (lineLength s) (length s) q in
+        let f = fed-fault m st k s fed in
         rw f
-        (faulty [] (firstLine s) (drop (suc (lineLength s)) s) (at-feed s (ltb-true (lineLength s) (length s) q)) (feedless-line s) none (λ z. n (f ∙ z)))
+        (faulty [] (firstLine s) (drop (suc (lineLength s)) s) (at-feed s fed) (feedless-line s) none (line-fault m st (firstLine s)) (λ z. n (f ∙ z)))
     go false q =
-        rw (unfed-fault st k s (ltb-false (lineLength s) (length s) q))
-        (unfed [] s refl (feedless-last s (ltb-false (lineLength s) (length s) q)) h none)
+        let unfed-line = ltb-false (lineLength s) (length s) q in
+        rw (unfed-fault m st k s unfed-line) (unfed [] s refl (feedless-last s unfed-line) h none)
 
 -- one line, where it is known what the text after it comes to
-one-line : (n : ℕ) (s : List ℕ) (st : Standing) (k : ℕ) → length s ≤ suc n → 0 < length s →
-    ((rest : List ℕ) → length rest ≤ n → (x : Standing) (m : ℕ) → Comes x m rest (readLines x m (parts rest))) → Comes st k s (readLines st k (parts s))
-one-line n s st k h p after = go (eqb (firstFault st s) 0) refl
+one-line : (m : Limits) (n : ℕ) (s : List ℕ) (st : Standing) (k : ℕ) → length s ≤ suc n → 0 < length s →
+    ((rest : List ℕ) → length rest ≤ n → (x : Standing) (j : ℕ) → Comes m x j rest (readLines m x j (parts rest))) → Comes m st k s (readLines m st k (parts s))
+one-line m n s st k h p after = go (eqb (firstFault m st s) 0) refl
   where
     rest : List ℕ
     rest = drop (suc (lineLength s)) s
 
     f : Form
-    f = formOf (firstLine s)
+    f = formOf m (firstLine s)
 
-    go : (x : Bool) → eqb (firstFault st s) 0 ≡ x → Comes st k s (readLines st k (parts s))
+    go : (x : Bool) → eqb (firstFault m st s) 0 ≡ x → Comes m st k s (readLines m st k (parts s))
     go true e =
-        let z = eqb-true (firstFault st s) 0 e in
-        let good : lineFault st f ≡ 0 = sym (fed-fault st k s (good-fed st k s z)) ∙ z in
-        rw (line-good st k s z)
-        (subst (λ (t : List ℕ). Comes st k t (readLines (standsAfter st f) (suc k) (parts rest)))
-        (sym (at-feed s (good-fed st k s z) ∙ ap (λ (l : List ℕ). l ++ (10 ∷ rest)) (good-spelled st (firstLine s) good)))
-        (comes-next st k f rest (readLines (standsAfter st f) (suc k) (parts rest)) good
+        let z = eqb-true (firstFault m st s) 0 e in
+        let fed = good-fed m st k s z in
+        let good : lineFault m st f ≡ 0 = sym (fed-fault m st k s fed) ∙ z in
+        let spells = good-spells m st (firstLine s) good in
+        rw (line-good m st k s z)
+        (subst (λ (t : List ℕ). Comes m st k t (readLines m (standsAfter st f) (suc k) (parts rest)))
+        (sym (at-feed s fed ∙ ap (λ (l : List ℕ). l ++ (10 ∷ rest)) (spells .spelling)))
+        (comes-next m st k f (spells .short) good rest (readLines m (standsAfter st f) (suc k) (parts rest))
         (after rest (omega (arith, length-drop (suc (lineLength s)) s)) (standsAfter st f) (suc k))))
-    go false e = rw (line-bad st k s p (eqb-false (firstFault st s) 0 e)) (comes-bad st k s p (eqb-false (firstFault st s) 0 e))
+    go false e =
+        let n = eqb-false (firstFault m st s) 0 e in rw (line-bad m st k s p n) (faults (comes-bad m st k s p n))
 
-line-or-end : (n : ℕ) (s : List ℕ) (st : Standing) (k : ℕ) → length s ≤ suc n →
-    ((rest : List ℕ) → length rest ≤ n → (x : Standing) (m : ℕ) → Comes x m rest (readLines x m (parts rest))) → Comes st k s (readLines st k (parts s))
+line-or-end : (m : Limits) (n : ℕ) (s : List ℕ) (st : Standing) (k : ℕ) → length s ≤ suc n →
+    ((rest : List ℕ) → length rest ≤ n → (x : Standing) (j : ℕ) → Comes m x j rest (readLines m x j (parts rest))) → Comes m st k s (readLines m st k (parts s))
 unfolding parts readLines
-line-or-end n [] st k h after = comes-end st k
-line-or-end n (b ∷ s) st k h after = one-line n (b ∷ s) st k h (omega arith) after
+line-or-end m n [] st k h after = comes-end m st k
+line-or-end m n (b ∷ s) st k h after = one-line m n (b ∷ s) st k h (omega arith) after
 
-comes : (n : ℕ) (s : List ℕ) → length s ≤ n → (st : Standing) (k : ℕ) → Comes st k s (readLines st k (parts s))
+comes : (m : Limits) (n : ℕ) (s : List ℕ) → length s ≤ n → (st : Standing) (k : ℕ) → Comes m st k s (readLines m st k (parts s))
 unfolding parts readLines
-comes zero [] h st k = comes-end st k
-comes zero (b ∷ s) h st k = absurd (omega arith)
-comes (suc n) s h st k = line-or-end n s st k h (λ rest l x m. comes n rest l x m)
-
-pub comes-to : (st : Standing) (k : ℕ) (s : List ℕ) → Comes st k s (readLines st k (parts s))
-comes-to st k s = comes (length s) s (le-refl (length s)) st k
+comes m zero [] h st k = comes-end m st k
+comes m zero (b ∷ s) h st k = absurd (omega arith)
+comes m (suc n) s h st k = line-or-end m n s st k h (λ rest l x j. comes m n rest l x j)
 
 -- ---- the whole file
 
--- a file is accepted with what stands at its end
-pub record Accepted (file : List ℕ) (st : Standing) : Type 0 where
-  pub forms : List Form
-  pub short : length file ≤ mostBytes
-  pub text : file ≡ textOf forms
-  pub good : Good nothing forms st
-  pub ended : st .turn ≡ Done
+module _ (m : Limits) (file : List ℕ) where
+  accepted-if : (st : Standing) → AcceptedFile m file st → outcomeOf m file ≡ accepted st
+  accepted-if st a = sym (short-enough m file (a .size)) ∙ passed 1 file (a .text) (a .good) ∙ ap (λ (t : Turn). atEnd t (length (a .forms) + 1) st) (a .ended)
 
--- a file's first fault: that it is too long, else what its lines come to
-pub data Faulty (file : List ℕ) : Outcome → Type 0 where
-  long : mostBytes < length file → Faulty file (refused 1 0)
-  lines : {number line : ℕ} → length file ≤ mostBytes → Comes nothing 1 file (refused number line) → Faulty file (refused number line)
-
-pub accepted-if : (file : List ℕ) (st : Standing) → Accepted file st → outcomeOf file ≡ accepted st
-accepted-if file st a = sym (short-enough file (a .short)) ∙ came (ends (a .forms) (a .text) (a .good) (a .ended))
-
-pub faulty-if : (file : List ℕ) (o : Outcome) → Faulty file o → outcomeOf file ≡ o
-faulty-if file o (long h) = sym (too-long file h)
-faulty-if file o (lines h c) = sym (short-enough file h) ∙ came c
+  refused-if : (number line : ℕ) → RefusedFile m file number line → outcomeOf m file ≡ refused number line
+  refused-if number line (long h) = sym (too-long m file h)
+  refused-if number line (lines h c) = sym (short-enough m file h) ∙ first-fault c
 
 -- every file is one or the other
-pub data Judged (file : List ℕ) : Outcome → Type 0 where
-  good : {st : Standing} → Accepted file st → Judged file (accepted st)
-  bad : {o : Outcome} → Faulty file o → Judged file o
+data Judged (m : Limits) (file : List ℕ) : Outcome → Type 0 where
+  good : {st : Standing} → AcceptedFile m file st → Judged m file (accepted st)
+  bad : {number line : ℕ} → RefusedFile m file number line → Judged m file (refused number line)
 
-pub judged : (file : List ℕ) → Judged file (outcomeOf file)
-judged file = go (leb (length file) mostBytes) refl
+judged : (m : Limits) (file : List ℕ) → Judged m file (outcomeOf m file)
+judged m file = go (leb (length file) (m .bytes)) refl
   where
-    read : {o : Outcome} → length file ≤ mostBytes → Comes nothing 1 file o → Judged file o
-    read h (ends fs t g d) = good (record { forms = fs; short = h; text = t; good = g; ended = d })
-    read h (faulty fs line after t n g z) = bad (lines h (faulty fs line after t n g z))
-    read h (unfed fs line t n l g) = bad (lines h (unfed fs line t n l g))
-    read h (unended fs t g n) = bad (lines h (unended fs t g n))
+    read : {o : Outcome} → length file ≤ m .bytes → Comes m beforeHead 1 file o → Judged m file o
+    read h (ends fs t g d) = good (record { forms = fs; size = h; text = t; good = g; ended = d })
+    read h (faults c) = bad (lines h c)
 
-    go : (x : Bool) → leb (length file) mostBytes ≡ x → Judged file (outcomeOf file)
-    go true e = let h = leb-true (length file) mostBytes e in rw (← short-enough file h) (read h (comes-to nothing 1 file))
-    go false e = let h = leb-false (length file) mostBytes e in rw (← too-long file h) (bad (long h))
+    go : (x : Bool) → leb (length file) (m .bytes) ≡ x → Judged m file (outcomeOf m file)
+    go true e =
+        let h = leb-true (length file) (m .bytes) e in
+        rw (← short-enough m file h) (read h (comes m (length file) file (le-refl (length file)) beforeHead 1))
+    go false e = let h = leb-false (length file) (m .bytes) e in rw (← too-long m file h) (bad (long h))
 
--- so a file is accepted exactly if it spells good forms up to an (end)
-pub accepted-as : (file : List ℕ) (st : Standing) → outcomeOf file ≡ accepted st → Accepted file st
-accepted-as file st e = go (outcomeOf file) e (judged file)
+accepted-only-if : (m : Limits) (file : List ℕ) (st : Standing) → outcomeOf m file ≡ accepted st → AcceptedFile m file st
+accepted-only-if m file st e = go (outcomeOf m file) e (judged m file)
   where
-    faults : {o : Outcome} → o ≡ accepted st → Faulty file o → Accepted file st
-    faults q (long h) = let z : _≡_ {A = ℕ} 0 1 = cc in absurd (omega arith)
-    faults q (lines h c) = let z : _≡_ {A = ℕ} 0 1 = cc in absurd (omega arith)
+    go : (o : Outcome) → o ≡ accepted st → Judged m file o → AcceptedFile m file st
+    go o q (good {st = x} a) = let same : x ≡ st = cc in subst (AcceptedFile m file) same a
+    go o q (bad f) = let z : _≡_ {A = ℕ} 0 1 = cc in absurd (omega arith)
 
-    go : (o : Outcome) → o ≡ accepted st → Judged file o → Accepted file st
-    go o q (good {st = x} a) = let same : x ≡ st = cc in subst (Accepted file) same a
-    go o q (bad f) = faults q f
-
--- and refused with a number and a line exactly if that is its first fault
-pub refused-as : (file : List ℕ) (number line : ℕ) → outcomeOf file ≡ refused number line → Faulty file (refused number line)
-refused-as file number line e = go (outcomeOf file) e (judged file)
+refused-only-if : (m : Limits) (file : List ℕ) (number line : ℕ) → outcomeOf m file ≡ refused number line → RefusedFile m file number line
+refused-only-if m file number line e = go (outcomeOf m file) e (judged m file)
   where
-    go : (o : Outcome) → o ≡ refused number line → Judged file o → Faulty file (refused number line)
+    go : (o : Outcome) → o ≡ refused number line → Judged m file o → RefusedFile m file number line
     go o q (good a) = let z : _≡_ {A = ℕ} 0 1 = cc in absurd (omega arith)
-    go o q (bad f) = subst (Faulty file) q f
+    go o q (bad {number = i} {line = j} f) =
+        let first : i ≡ number = cc in
+        let second : j ≡ line = cc in
+        subst (RefusedFile m file number) second (subst (λ (n : ℕ). RefusedFile m file n j) first f)
+
+pub acceptance : (m : Limits) (file : List ℕ) → Acceptance m file
+acceptance m file =
+    record {
+      accepted-if = accepted-if m file;
+      accepted-only-if = accepted-only-if m file;
+      refused-if = refused-if m file;
+      refused-only-if = refused-only-if m file;
+    }

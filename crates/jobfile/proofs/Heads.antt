@@ -8,25 +8,24 @@ use lib.Dec.{leb, eqb}
 use borrow.Author.Tests.{leb-true, eqb-true}
 use Rattle.spelling.proofs.Numerals.{both}
 use Rattle.jobfile.specs.declared.Head.{Head}
-use Rattle.jobfile.specs.Limits.{mostSide, mostTiles, mostBound, mostAccuracy, mostLevels}
+use Rattle.jobfile.specs.Limits.{Limits, unitLimits}
 use Rattle.jobfile.specs.Forms.{within, headInRange, tileSide, tilesAcross, agrees}
 use Rattle.jobfile.specs.Held.{GoodHead}
 
 pub record HeadFacts (h : Head) : Type 0 where
   pub window-least : 1 ≤ h .window
   pub window-most : h .window ≤ h .size
-  pub size-most : h .size ≤ mostSide
+  pub size-most : h .size ≤ unitLimits .side
   pub cut-least : 1 ≤ h .cut
-  pub gap-most : h .gap ≤ mostSide
+  pub gap-most : h .gap ≤ unitLimits .side
   pub bounds-order : h .lower ≤ h .upper
-  pub bounds-most : h .upper ≤ mostBound
-  pub accuracy-most : h .accuracy ≤ mostAccuracy
+  pub bounds-most : h .upper ≤ unitLimits .bound
+  pub accuracy-most : h .accuracy ≤ unitLimits .accuracy
   pub levels-least : 1 ≤ h .levels
-  pub levels-most : h .levels ≤ mostLevels
   pub side-least : 1 ≤ tileSide h
   pub window-tiles : h .window ≡ h .cut * tileSide h
   pub size-tiles : h .size ≡ tilesAcross h * tileSide h
-  pub tiles-most : tilesAcross h ≤ mostTiles
+  pub tiles-most : tilesAcross h ≤ unitLimits .tiles
   pub cut-tiles : h .cut ≤ tilesAcross h
 
 -- a number in its range
@@ -53,78 +52,78 @@ four true false c d e = absurd (false≢true e)
 four false b c d e = absurd (false≢true e)
 
 -- the ranges of a good head's numbers
-pub record Ranges (h : Head) : Type 0 where
-  pub size : Between 1 mostSide (h .size)
-  pub window : Between 1 mostSide (h .window)
-  pub cut : Between 1 mostTiles (h .cut)
-  pub gap : Between 0 mostSide (h .gap)
-  pub lower : Between 0 mostBound (h .lower)
-  pub upper : Between 0 mostBound (h .upper)
-  pub accuracy : Between 0 mostAccuracy (h .accuracy)
-  pub levels : Between 1 mostLevels (h .levels)
+pub record Ranges (m : Limits) (h : Head) : Type 0 where
+  pub size : Between 1 (m .side) (h .size)
+  pub window : Between 1 (m .side) (h .window)
+  pub cut : Between 1 (m .tiles) (h .cut)
+  pub gap : Between 0 (m .side) (h .gap)
+  pub lower : Between 0 (m .bound) (h .lower)
+  pub upper : Between 0 (m .bound) (h .upper)
+  pub accuracy : Between 0 (m .accuracy) (h .accuracy)
+  pub levels : Between 1 (m .levels) (h .levels)
 
-pub ranges : (h : Head) → headInRange h ≡ true → Ranges h
-ranges h e =
+pub ranges : (m : Limits) (h : Head) → headInRange m h ≡ true → Ranges m h
+ranges m h e =
     record {
-      size = between 1 mostSide (h .size) (a .0);
-      window = between 1 mostSide (h .window) (a .1);
-      cut = between 1 mostTiles (h .cut) (b .0);
-      gap = between 0 mostSide (h .gap) (b .1);
-      lower = between 0 mostBound (h .lower) (c .0);
-      upper = between 0 mostBound (h .upper) (c .1);
-      accuracy = between 0 mostAccuracy (h .accuracy) (d .0);
-      levels = between 1 mostLevels (h .levels) (d .1);
+      size = between 1 (m .side) (h .size) (a .0);
+      window = between 1 (m .side) (h .window) (a .1);
+      cut = between 1 (m .tiles) (h .cut) (b .0);
+      gap = between 0 (m .side) (h .gap) (b .1);
+      lower = between 0 (m .bound) (h .lower) (c .0);
+      upper = between 0 (m .bound) (h .upper) (c .1);
+      accuracy = between 0 (m .accuracy) (h .accuracy) (d .0);
+      levels = between 1 (m .levels) (h .levels) (d .1);
     }
   where
     sides : Bool
-    sides = within 1 mostSide (h .size) && within 1 mostSide (h .window)
+    sides = within 1 (m .side) (h .size) && within 1 (m .side) (h .window)
 
     tiles : Bool
-    tiles = within 1 mostTiles (h .cut) && within 0 mostSide (h .gap)
+    tiles = within 1 (m .tiles) (h .cut) && within 0 (m .side) (h .gap)
 
     bounds : Bool
-    bounds = within 0 mostBound (h .lower) && within 0 mostBound (h .upper)
+    bounds = within 0 (m .bound) (h .lower) && within 0 (m .bound) (h .upper)
 
     zoom : Bool
-    zoom = within 0 mostAccuracy (h .accuracy) && within 1 mostLevels (h .levels)
+    zoom = within 0 (m .accuracy) (h .accuracy) && within 1 (m .levels) (h .levels)
 
     k : (sides ≡ true) × (tiles ≡ true) × (bounds ≡ true) × (zoom ≡ true)
     k = four sides tiles bounds zoom e
 
-    a : (within 1 mostSide (h .size) ≡ true) × (within 1 mostSide (h .window) ≡ true)
-    a = both (within 1 mostSide (h .size)) (within 1 mostSide (h .window)) (k .0)
+    a : (within 1 (m .side) (h .size) ≡ true) × (within 1 (m .side) (h .window) ≡ true)
+    a = both (within 1 (m .side) (h .size)) (within 1 (m .side) (h .window)) (k .0)
 
-    b : (within 1 mostTiles (h .cut) ≡ true) × (within 0 mostSide (h .gap) ≡ true)
-    b = both (within 1 mostTiles (h .cut)) (within 0 mostSide (h .gap)) (k .1)
+    b : (within 1 (m .tiles) (h .cut) ≡ true) × (within 0 (m .side) (h .gap) ≡ true)
+    b = both (within 1 (m .tiles) (h .cut)) (within 0 (m .side) (h .gap)) (k .1)
 
-    c : (within 0 mostBound (h .lower) ≡ true) × (within 0 mostBound (h .upper) ≡ true)
-    c = both (within 0 mostBound (h .lower)) (within 0 mostBound (h .upper)) (k .2)
+    c : (within 0 (m .bound) (h .lower) ≡ true) × (within 0 (m .bound) (h .upper) ≡ true)
+    c = both (within 0 (m .bound) (h .lower)) (within 0 (m .bound) (h .upper)) (k .2)
 
-    d : (within 0 mostAccuracy (h .accuracy) ≡ true) × (within 1 mostLevels (h .levels) ≡ true)
-    d = both (within 0 mostAccuracy (h .accuracy)) (within 1 mostLevels (h .levels)) (k .3)
+    d : (within 0 (m .accuracy) (h .accuracy) ≡ true) × (within 1 (m .levels) (h .levels) ≡ true)
+    d = both (within 0 (m .accuracy) (h .accuracy)) (within 1 (m .levels) (h .levels)) (k .3)
 
-pub record Agreement (h : Head) : Type 0 where
+pub record Agreement (m : Limits) (h : Head) : Type 0 where
   pub fits : h .window ≤ h .size
   pub cut-divides : h .window ≡ tileSide h * h .cut
   pub side-divides : h .size ≡ tilesAcross h * tileSide h
-  pub few : tilesAcross h ≤ mostTiles
+  pub few : tilesAcross h ≤ m .tiles
   pub order : h .lower ≤ h .upper
 
-pub agreement : (h : Head) → agrees h ≡ true → Agreement h
-agreement h e =
+pub agreement : (m : Limits) (h : Head) → agrees m h ≡ true → Agreement m h
+agreement m h e =
     record {
       fits = leb-true (h .window) (h .size) (a .0);
       cut-divides = times (h .window) (h .cut) (b .0);
       side-divides = times (h .size) (tileSide h) (b .1);
-      few = leb-true (tilesAcross h) mostTiles (c .0);
+      few = leb-true (tilesAcross h) (m .tiles) (c .0);
       order = leb-true (h .lower) (h .upper) (c .1);
     }
   where
     k : ((leb (h .window) (h .size) && (eqb (h .window % h .cut) 0 && eqb (h .size % tileSide h) 0)) ≡ true)
-        × ((leb (tilesAcross h) mostTiles && leb (h .lower) (h .upper)) ≡ true)
+        × ((leb (tilesAcross h) (m .tiles) && leb (h .lower) (h .upper)) ≡ true)
     k =
         both (leb (h .window) (h .size) && (eqb (h .window % h .cut) 0 && eqb (h .size % tileSide h) 0))
-        (leb (tilesAcross h) mostTiles && leb (h .lower) (h .upper)) e
+        (leb (tilesAcross h) (m .tiles) && leb (h .lower) (h .upper)) e
 
     a : (leb (h .window) (h .size) ≡ true) × ((eqb (h .window % h .cut) 0 && eqb (h .size % tileSide h) 0) ≡ true)
     a = both (leb (h .window) (h .size)) (eqb (h .window % h .cut) 0 && eqb (h .size % tileSide h) 0) (k .0)
@@ -132,8 +131,8 @@ agreement h e =
     b : (eqb (h .window % h .cut) 0 ≡ true) × (eqb (h .size % tileSide h) 0 ≡ true)
     b = both (eqb (h .window % h .cut) 0) (eqb (h .size % tileSide h) 0) (a .1)
 
-    c : (leb (tilesAcross h) mostTiles ≡ true) × (leb (h .lower) (h .upper) ≡ true)
-    c = both (leb (tilesAcross h) mostTiles) (leb (h .lower) (h .upper)) (k .1)
+    c : (leb (tilesAcross h) (m .tiles) ≡ true) × (leb (h .lower) (h .upper) ≡ true)
+    c = both (leb (tilesAcross h) (m .tiles)) (leb (h .lower) (h .upper)) (k .1)
 
 pub head-facts : (h : Head) → GoodHead h → HeadFacts h
 head-facts h g =
@@ -147,7 +146,6 @@ head-facts h g =
       bounds-most = r .upper .most;
       accuracy-most = r .accuracy .most;
       levels-least = r .levels .least;
-      levels-most = r .levels .most;
       side-least = side;
       window-tiles = by-cut;
       size-tiles = a .side-divides;
@@ -155,11 +153,11 @@ head-facts h g =
       cut-tiles = le-of-mul-le-mul-right (rw (← by-cut, ← a .side-divides) (a .fits)) side;
     }
   where
-    r : Ranges h
-    r = ranges h (g .range)
+    r : Ranges unitLimits h
+    r = ranges unitLimits h (g .range)
 
-    a : Agreement h
-    a = agreement h (g .agreement)
+    a : Agreement unitLimits h
+    a = agreement unitLimits h (g .agreement)
 
     by-cut : h .window ≡ h .cut * tileSide h
     by-cut = a .cut-divides ∙ mul-comm (tileSide h) (h .cut)
@@ -168,5 +166,5 @@ head-facts h g =
     side = positive (tileSide h) (h .cut) (omega (arith, a .cut-divides, r .window .least))
 
 -- the far corner of a tile lies in the layout
-pub tile-end : (h : Head) (i : ℕ) → HeadFacts h → i < tilesAcross h → suc i * tileSide h ≤ mostSide
+pub tile-end : (h : Head) (i : ℕ) → HeadFacts h → i < tilesAcross h → suc i * tileSide h ≤ unitLimits .side
 tile-end h i f k = le-trans (mul-le-mul-right (tileSide h) k) (omega (arith, f .size-tiles, f .size-most))

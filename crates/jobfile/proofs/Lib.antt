@@ -1,5 +1,6 @@
 pub mod Tests
 pub mod Tables
+pub mod Faultless
 pub mod Sound
 pub mod Entering
 pub mod Heads
@@ -8,4 +9,5 @@ pub mod Reading
 pub mod Lines
 pub mod Spelled
 pub mod Files
+pub mod Widening
 pub mod Accepted

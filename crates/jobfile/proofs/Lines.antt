@@ -21,13 +21,13 @@ use Rattle.jobfile.specs.declared.Ending.{Ending}
 use Rattle.jobfile.specs.declared.Job.{Job}
 use Rattle.jobfile.specs.declared.Turn.{Turn}
 use Rattle.jobfile.specs.declared.Turn.the-variants.{Before, Shapes, Fills, Done}
-use Rattle.jobfile.specs.Limits.{mostBytes}
+use Rattle.jobfile.specs.Limits.{Limits, unitLimits}
 use Rattle.jobfile.specs.Forms.{formOf}
-use Rattle.jobfile.specs.Faults.{Standing, nothing, noHead, lineFault, standsAfter}
+use Rattle.jobfile.specs.Faults.{Standing, beforeHead, noHead, lineFault, standsAfter}
 use Rattle.jobfile.specs.File.{Outcome, refused, atEnd, afterLast, readLines, outcomeOf}
-use Rattle.jobfile.specs.Held.{tileCount, standing, Held, Entered, firstLine, firstFault, LineRead, endFault, jobOf, tableOf, padded, asJob}
+use Rattle.jobfile.specs.Held.{rectsRoom, amountsRoom, tileCount, standing, Held, Entered, firstLine, firstFault, LineRead, endFault, jobOf, tableOf, padded, asJob}
 use Rattle.jobfile.proofs.Tables.{table-of-rects, zeros}
-use Rattle.jobfile.proofs.Sound.{sound-nothing}
+use Rattle.jobfile.proofs.Sound.{sound-start}
 use Rattle.jobfile.proofs.Entering.{held-count}
 
 -- ---- one line more
@@ -48,66 +48,66 @@ pieces (b ∷ s) = go (eqb b 10) refl (pieces s)
     go false e p = record { first = b ∷ p .first; others = p .others; all = rw (e, parts) (ap (inFront b) (p .all)) }
 
 -- what reading comes to after a line that has a line feed, the pieces after it given
-abbrev afterLine : Standing → ℕ → List ℕ → List (List ℕ) → Outcome
-afterLine st k line ps =
-    elim (eqb (lineFault st (formOf line)) 0) [
-      | true ↦ readLines (standsAfter st (formOf line)) (suc k) ps
-      | false ↦ refused (lineFault st (formOf line)) k
+abbrev afterLine : Limits → Standing → ℕ → List ℕ → List (List ℕ) → Outcome
+afterLine m st k line ps =
+    elim (eqb (lineFault m st (formOf m line)) 0) [
+      | true ↦ readLines m (standsAfter st (formOf m line)) (suc k) ps
+      | false ↦ refused (lineFault m st (formOf m line)) k
     ]
 
-read-next : (st : Standing) (k : ℕ) (line s : List ℕ) → readLines st k (line ∷ parts s) ≡ afterLine st k line (parts s)
+read-next : (m : Limits) (st : Standing) (k : ℕ) (line s : List ℕ) → readLines m st k (line ∷ parts s) ≡ afterLine m st k line (parts s)
 unfolding readLines
-read-next st k line s = subst (λ (ps : List (List ℕ)). readLines st k (line ∷ ps) ≡ afterLine st k line ps) (sym (pieces s .all)) refl
+read-next m st k line s = subst (λ (ps : List (List ℕ)). readLines m st k (line ∷ ps) ≡ afterLine m st k line ps) (sym (pieces s .all)) refl
 
-pub good-next : (st : Standing) (k : ℕ) (line s : List ℕ) → lineFault st (formOf line) ≡ 0 →
-    readLines st k (line ∷ parts s) ≡ readLines (standsAfter st (formOf line)) (suc k) (parts s)
-good-next st k line s e = read-next st k line s ∙ rw (eq-eqb (lineFault st (formOf line)) 0 e, afterLine)
+pub good-next : (m : Limits) (st : Standing) (k : ℕ) (line s : List ℕ) → lineFault m st (formOf m line) ≡ 0 →
+    readLines m st k (line ∷ parts s) ≡ readLines m (standsAfter st (formOf m line)) (suc k) (parts s)
+good-next m st k line s e = read-next m st k line s ∙ rw (eq-eqb (lineFault m st (formOf m line)) 0 e, afterLine)
 
-pub bad-next : (st : Standing) (k : ℕ) (line s : List ℕ) → (lineFault st (formOf line) ≡ 0 → ⊥) →
-    readLines st k (line ∷ parts s) ≡ refused (lineFault st (formOf line)) k
-bad-next st k line s n = read-next st k line s ∙ rw (ne-eqb (lineFault st (formOf line)) 0 n, afterLine)
+pub bad-next : (m : Limits) (st : Standing) (k : ℕ) (line s : List ℕ) → (lineFault m st (formOf m line) ≡ 0 → ⊥) →
+    readLines m st k (line ∷ parts s) ≡ refused (lineFault m st (formOf m line)) k
+bad-next m st k line s n = read-next m st k line s ∙ rw (ne-eqb (lineFault m st (formOf m line)) 0 n, afterLine)
 
-pub read-last : (st : Standing) (k : ℕ) (s : List ℕ) → readLines st k (s ∷ []) ≡ afterLast st k s
+pub read-last : (m : Limits) (st : Standing) (k : ℕ) (s : List ℕ) → readLines m st k (s ∷ []) ≡ afterLast st k s
 unfolding readLines
-read-last st k s = refl
+read-last m st k s = refl
 
-module _ (st : Standing) (k : ℕ) (rest : List ℕ) where
-  pub fed-fault : lineLength rest < length rest → firstFault st rest ≡ lineFault st (formOf (firstLine rest))
+module _ (m : Limits) (st : Standing) (k : ℕ) (rest : List ℕ) where
+  pub fed-fault : lineLength rest < length rest → firstFault m st rest ≡ lineFault m st (formOf m (firstLine rest))
   fed-fault h = rw (lt-ltb (lineLength rest) (length rest) h, firstFault)
 
-  pub unfed-fault : length rest ≤ lineLength rest → firstFault st rest ≡ 2
+  pub unfed-fault : length rest ≤ lineLength rest → firstFault m st rest ≡ 2
   unfed-fault h = rw (le-ltb (lineLength rest) (length rest) h, firstFault)
 
   -- a good line has a line feed
-  pub good-fed : firstFault st rest ≡ 0 → lineLength rest < length rest
+  pub good-fed : firstFault m st rest ≡ 0 → lineLength rest < length rest
   good-fed e = go (ltb (lineLength rest) (length rest)) refl
     where
       go : (x : Bool) → ltb (lineLength rest) (length rest) ≡ x → lineLength rest < length rest
       go true q = ltb-true (lineLength rest) (length rest) q
       go false q = absurd (omega (arith, e, unfed-fault (ltb-false (lineLength rest) (length rest) q)))
 
-  pub line-good : firstFault st rest ≡ 0 →
-      readLines st k (parts rest) ≡ readLines (standsAfter st (formOf (firstLine rest))) (suc k) (parts (drop (suc (lineLength rest)) rest))
+  pub line-good : firstFault m st rest ≡ 0 →
+      readLines m st k (parts rest) ≡ readLines m (standsAfter st (formOf m (firstLine rest))) (suc k) (parts (drop (suc (lineLength rest)) rest))
   line-good e =
-      ap (readLines st k) (parts-line rest (good-fed e))
-      ∙ good-next st k (firstLine rest) (drop (suc (lineLength rest)) rest) (sym (fed-fault (good-fed e)) ∙ e)
+      ap (readLines m st k) (parts-line rest (good-fed e))
+      ∙ good-next m st k (firstLine rest) (drop (suc (lineLength rest)) rest) (sym (fed-fault (good-fed e)) ∙ e)
 
-  pub line-bad : 0 < length rest → (firstFault st rest ≡ 0 → ⊥) → readLines st k (parts rest) ≡ refused (firstFault st rest) k
+  pub line-bad : 0 < length rest → (firstFault m st rest ≡ 0 → ⊥) → readLines m st k (parts rest) ≡ refused (firstFault m st rest) k
   line-bad h n = go (ltb (lineLength rest) (length rest)) refl
     where
       last : (s : List ℕ) → 0 < length s → afterLast st k s ≡ refused 2 k
       last [] h = absurd (omega arith)
       last (b ∷ s) h = refl
 
-      go : (x : Bool) → ltb (lineLength rest) (length rest) ≡ x → readLines st k (parts rest) ≡ refused (firstFault st rest) k
+      go : (x : Bool) → ltb (lineLength rest) (length rest) ≡ x → readLines m st k (parts rest) ≡ refused (firstFault m st rest) k
       go true q =
           let f = fed-fault (ltb-true (lineLength rest) (length rest) q) in
-          ap (readLines st k) (parts-line rest (ltb-true (lineLength rest) (length rest) q))
-          ∙ bad-next st k (firstLine rest) (drop (suc (lineLength rest)) rest) (λ z. n (f ∙ z))
-          ∙ ap (λ (m : ℕ). refused m k) (sym f)
+          ap (readLines m st k) (parts-line rest (ltb-true (lineLength rest) (length rest) q))
+          ∙ bad-next m st k (firstLine rest) (drop (suc (lineLength rest)) rest) (λ z. n (f ∙ z))
+          ∙ ap (λ (n : ℕ). refused n k) (sym f)
       go false q =
           let f = unfed-fault (ltb-false (lineLength rest) (length rest) q) in
-          ap (readLines st k) (parts-last rest (ltb-false (lineLength rest) (length rest) q)) ∙ read-last st k rest ∙ last rest h ∙ ap (λ (m : ℕ). refused m k) (sym f)
+          ap (readLines m st k) (parts-last rest (ltb-false (lineLength rest) (length rest) q)) ∙ read-last m st k rest ∙ last rest h ∙ ap (λ (n : ℕ). refused n k) (sym f)
 
 -- ---- one line, as the code reads it
 
@@ -115,18 +115,18 @@ module _ (rest : List ℕ) (s : State) (rects amounts : List ℕ) (n : ℕ) (e :
   pub read-unfed : length rest ≤ n → LineRead rest s rects amounts (record { fault = 2; used = n + 1; state = s }) rects amounts
   read-unfed h =
       record {
-        fault = sym (unfed-fault (standing s rects amounts) 0 rest (omega (arith, e)));
+        fault = sym (unfed-fault unitLimits (standing s rects amounts) 0 rest (omega (arith, e)));
         used = ap (λ (m : ℕ). m + 1) e;
         good = λ z. absurd (omega arith);
         bad = λ z. (refl, refl, refl);
       }
 
-  module _ (h : n < length rest) (f : Form) (q : f ≡ formOf (take n rest)) (fault : ℕ) (p : fault ≡ lineFault (standing s rects amounts) f) where
-    same-form : f ≡ formOf (firstLine rest)
-    same-form = q ∙ ap (λ (m : ℕ). formOf (take m rest)) e
+  module _ (h : n < length rest) (f : Form) (q : f ≡ formOf unitLimits (take n rest)) (fault : ℕ) (p : fault ≡ lineFault unitLimits (standing s rects amounts) f) where
+    same-form : f ≡ formOf unitLimits (firstLine rest)
+    same-form = q ∙ ap (λ (m : ℕ). formOf unitLimits (take m rest)) e
 
-    same-fault : fault ≡ firstFault (standing s rects amounts) rest
-    same-fault = p ∙ ap (lineFault (standing s rects amounts)) same-form ∙ sym (fed-fault (standing s rects amounts) 0 rest (omega (arith, e)))
+    same-fault : fault ≡ firstFault unitLimits (standing s rects amounts) rest
+    same-fault = p ∙ ap (lineFault unitLimits (standing s rects amounts)) same-form ∙ sym (fed-fault unitLimits (standing s rects amounts) 0 rest (omega (arith, e)))
 
     pub read-faulty : (fault ≡ 0 → ⊥) → LineRead rest s rects amounts (record { fault = fault; used = n + 1; state = s }) rects amounts
     read-faulty z = record { fault = same-fault; used = ap (λ (m : ℕ). m + 1) e; good = λ g. absurd (z g); bad = λ b. (refl, refl, refl) }
@@ -147,9 +147,9 @@ pub record SoFar (file : List ℕ) (s : State) (rects amounts : List ℕ) (line 
   pub held : Held s rects amounts
   pub within : at ≤ length file
   pub lines : line ≤ at + 1
-  pub whole : readLines nothing 1 (parts file) ≡ readLines (standing s rects amounts) line (parts (drop at file))
+  pub whole : readLines unitLimits beforeHead 1 (parts file) ≡ readLines unitLimits (standing s rects amounts) line (parts (drop at file))
 
-pub so-far-start : (file rects amounts : List ℕ) (h : Head) → rects ≡ zeros 1024 → amounts ≡ zeros 4096 → h ≡ noHead →
+pub so-far-start : (file rects amounts : List ℕ) (h : Head) → rects ≡ zeros rectsRoom → amounts ≡ zeros amountsRoom → h ≡ noHead →
     SoFar file (record { turn = Before; head = h; count = 0 }) rects amounts 1 0
 unfolding rectsOf
 so-far-start file rects amounts h er ea eh =
@@ -162,7 +162,7 @@ so-far-start file rects amounts h er ea eh =
         tiles = lit≤ tt;
         behind = refl;
         beyond = refl;
-        sound = sound-nothing;
+        sound = sound-start;
       };
       within = omega arith;
       lines = omega arith;
@@ -179,19 +179,19 @@ so-far-next file s rects amounts line at rest r rects′ amounts′ k e read z =
       within = omega (arith, feed, read .used, ap length e, length-drop at file, k .within);
       lines = omega (arith, k .lines, read .used);
       whole =
-          k .whole ∙ ap (λ (t : List ℕ). readLines st line (parts t)) (sym e) ∙ line-good st line rest fault
-          ∙ ap₂ (λ (x : Standing) (t : List ℕ). readLines x (suc line) (parts t)) (sym (read .good z .stands)) left
-          ∙ ap (λ (n : ℕ). readLines (standing (r .state) rects′ amounts′) n (parts (drop (at + r .used) file))) (sym (add-one line));
+          k .whole ∙ ap (λ (t : List ℕ). readLines unitLimits st line (parts t)) (sym e) ∙ line-good unitLimits st line rest fault
+          ∙ ap₂ (λ (x : Standing) (t : List ℕ). readLines unitLimits x (suc line) (parts t)) (sym (read .good z .stands)) left
+          ∙ ap (λ (n : ℕ). readLines unitLimits (standing (r .state) rects′ amounts′) n (parts (drop (at + r .used) file))) (sym (add-one line));
     }
   where
     st : Standing
     st = standing s rects amounts
 
-    fault : firstFault (standing s rects amounts) rest ≡ 0
+    fault : firstFault unitLimits (standing s rects amounts) rest ≡ 0
     fault = sym (read .fault) ∙ z
 
     feed : lineLength rest < length rest
-    feed = good-fed (standing s rects amounts) line rest fault
+    feed = good-fed unitLimits (standing s rects amounts) line rest fault
 
     left : drop (suc (lineLength rest)) rest ≡ drop (at + r .used) file
     left =
@@ -201,14 +201,14 @@ so-far-next file s rects amounts line at rest r rects′ amounts′ k e read z =
 -- a faulty line ends the reading
 pub so-far-bad : (file : List ℕ) (s : State) (rects amounts : List ℕ) (line at : ℕ) (rest : List ℕ) (r : Step) (rects′ amounts′ : List ℕ) →
     SoFar file s rects amounts line at → at < length file → rest ≡ drop at file → LineRead rest s rects amounts r rects′ amounts′ →
-    (r .fault ≡ 0 → ⊥) → jobOf (record { fault = r .fault; line = line; state = s }) rects′ amounts′ ≡ asJob (readLines nothing 1 (parts file))
+    (r .fault ≡ 0 → ⊥) → jobOf (record { fault = r .fault; line = line; state = s }) rects′ amounts′ ≡ asJob (readLines unitLimits beforeHead 1 (parts file))
 unfolding jobOf
 so-far-bad file s rects amounts line at rest r rects′ amounts′ k h e read n =
     rw (ne-eqb (r .fault) 0 n, jobOf)
     (ap asJob
     (sym
-    (k .whole ∙ ap (λ (t : List ℕ). readLines (standing s rects amounts) line (parts t)) (sym e)
-    ∙ line-bad (standing s rects amounts) line rest (omega (arith, ap length e, length-drop at file)) (λ z. n (read .fault ∙ z))
+    (k .whole ∙ ap (λ (t : List ℕ). readLines unitLimits (standing s rects amounts) line (parts t)) (sym e)
+    ∙ line-bad unitLimits (standing s rects amounts) line rest (omega (arith, ap length e, length-drop at file)) (λ z. n (read .fault ∙ z))
     ∙ ap (λ (m : ℕ). refused m line) (sym (read .fault)))))
 
 -- ---- the tables at the end
@@ -218,14 +218,14 @@ filled : (n k : ℕ) (l t : List ℕ) → take k l ≡ t → length l ≡ n → 
 filled n k l t e w h d =
     sym (take-append-drop k l) ∙ ap₂ _++_ e (d ∙ ap (λ (m : ℕ). zeros (n - m)) (sym (ap length (sym e) ∙ length-take-le k l (omega (arith, w)))))
 
-held-rects : (s : State) (rects amounts : List ℕ) → Held s rects amounts → rects ≡ padded 1024 (tableOf (rectsOf (take (4 * s .count) rects)))
+held-rects : (s : State) (rects amounts : List ℕ) → Held s rects amounts → rects ≡ padded rectsRoom (tableOf (rectsOf (take (4 * s .count) rects)))
 held-rects s rects amounts k =
-    filled 1024 (4 * s .count) rects (tableOf (rectsOf (take (4 * s .count) rects)))
+    filled rectsRoom (4 * s .count) rects (tableOf (rectsOf (take (4 * s .count) rects)))
     (sym (table-of-rects (s .count) (take (4 * s .count) rects) (length-take-le (4 * s .count) rects (omega (arith, k .count, k .room)))))
     (k .room) (omega (arith, k .count)) (k .behind)
 
-held-amounts : (s : State) (rects amounts : List ℕ) → Held s rects amounts → amounts ≡ padded 4096 (take (tileCount (s .head)) amounts)
-held-amounts s rects amounts k = filled 4096 (tileCount (s .head)) amounts (take (tileCount (s .head)) amounts) refl (k .cells) (k .tiles) (k .beyond)
+held-amounts : (s : State) (rects amounts : List ℕ) → Held s rects amounts → amounts ≡ padded amountsRoom (take (tileCount (s .head)) amounts)
+held-amounts s rects amounts k = filled amountsRoom (tileCount (s .head)) amounts (take (tileCount (s .head)) amounts) refl (k .cells) (k .tiles) (k .beyond)
 
 -- the job where (end) was read, and where it was not
 ended : (s : State) (line : ℕ) (rects amounts : List ℕ) → Held s rects amounts → (t : Turn) →
@@ -243,12 +243,12 @@ ended s line rects amounts k Done =
 
 -- the end of the file
 pub so-far-end : (file : List ℕ) (s : State) (rects amounts : List ℕ) (line at n : ℕ) → SoFar file s rects amounts line at → length file ≤ at →
-    n ≡ endFault (s .turn) → jobOf (record { fault = n; line = line; state = s }) rects amounts ≡ asJob (readLines nothing 1 (parts file))
+    n ≡ endFault (s .turn) → jobOf (record { fault = n; line = line; state = s }) rects amounts ≡ asJob (readLines unitLimits beforeHead 1 (parts file))
 unfolding parts readLines
 so-far-end file s rects amounts line at n k h e =
     ap (λ (m : ℕ). jobOf (record { fault = m; line = line; state = s }) rects amounts) e
     ∙ ended s line rects amounts (k .held) (s .turn)
-    ∙ ap asJob (sym (k .whole ∙ ap (λ (t : List ℕ). readLines (standing s rects amounts) line (parts t)) (drop-of-length-le file h)))
+    ∙ ap asJob (sym (k .whole ∙ ap (λ (t : List ℕ). readLines unitLimits (standing s rects amounts) line (parts t)) (drop-of-length-le file h)))
 
 -- the part of a list from a place to its end
 pub from-place : (l : List ℕ) (n : ℕ) → take (length l - n) (drop n l) ≡ drop n l
@@ -256,21 +256,21 @@ from-place l n = take-all (length l - n) (drop n l) (omega (arith, length-drop n
 
 -- ---- the whole file
 
-pub too-long : (file : List ℕ) → mostBytes < length file → refused 1 0 ≡ outcomeOf file
+pub too-long : (m : Limits) (file : List ℕ) → m .bytes < length file → refused 1 0 ≡ outcomeOf m file
 unfolding outcomeOf
-too-long file h = rw (lt-leb (length file) mostBytes h, outcomeOf)
+too-long m file h = rw (lt-leb (length file) (m .bytes) h, outcomeOf)
 
-pub short-enough : (file : List ℕ) → length file ≤ mostBytes → readLines nothing 1 (parts file) ≡ outcomeOf file
+pub short-enough : (m : Limits) (file : List ℕ) → length file ≤ m .bytes → readLines m beforeHead 1 (parts file) ≡ outcomeOf m file
 unfolding outcomeOf
-short-enough file h = rw (le-leb (length file) mostBytes h, outcomeOf)
+short-enough m file h = rw (le-leb (length file) (m .bytes) h, outcomeOf)
 
-module _ (file : List ℕ) (h : length file ≤ mostBytes) (e : Ending) (rects amounts : List ℕ)
-    (same : jobOf e rects amounts ≡ asJob (readLines nothing 1 (parts file))) where
-  pub whole-bad : (j : Job) → (e .fault ≡ 0 → ⊥) → j ≡ asJob (refused (e .fault) (e .line)) → j ≡ asJob (outcomeOf file)
+module _ (file : List ℕ) (h : length file ≤ unitLimits .bytes) (e : Ending) (rects amounts : List ℕ)
+    (same : jobOf e rects amounts ≡ asJob (readLines unitLimits beforeHead 1 (parts file))) where
+  pub whole-bad : (j : Job) → (e .fault ≡ 0 → ⊥) → j ≡ asJob (refused (e .fault) (e .line)) → j ≡ asJob (outcomeOf unitLimits file)
   unfolding jobOf
-  whole-bad j n q = q ∙ rw (ne-eqb (e .fault) 0 n, jobOf) at same ∙ ap asJob (short-enough file h)
+  whole-bad j n q = q ∙ rw (ne-eqb (e .fault) 0 n, jobOf) at same ∙ ap asJob (short-enough unitLimits file h)
 
   pub whole-good : e .fault ≡ 0 →
-      record { fault = 0; line = 0; head = e .state .head; count = e .state .count; rects = rects; amounts = amounts } ≡ asJob (outcomeOf file)
+      record { fault = 0; line = 0; head = e .state .head; count = e .state .count; rects = rects; amounts = amounts } ≡ asJob (outcomeOf unitLimits file)
   unfolding jobOf
-  whole-good z = rw (eq-eqb (e .fault) 0 z, jobOf) at same ∙ ap asJob (short-enough file h)
+  whole-good z = rw (eq-eqb (e .fault) 0 z, jobOf) at same ∙ ap asJob (short-enough unitLimits file h)

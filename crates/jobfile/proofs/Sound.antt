@@ -22,61 +22,12 @@ use Rattle.jobfile.specs.declared.Form.{Form}
 use Rattle.jobfile.specs.declared.Form.the-variants.{Unknown, Heading, Shape, Fill, End}
 use Rattle.jobfile.specs.declared.Turn.{Turn}
 use Rattle.jobfile.specs.declared.Turn.the-variants.{Before, Shapes, Fills, Done}
-use Rattle.jobfile.specs.Limits.{mostShapes}
+use Rattle.jobfile.specs.Limits.{unitLimits}
 use Rattle.jobfile.specs.Forms.{inRange, rectInRange, tileSide, tilesAcross, agrees}
-use Rattle.jobfile.specs.Faults.{Standing, nothing, inTurn, known, unless, fitsLayout, shapeFault, fillFault, ownFault, lineFault, standsAfter}
+use Rattle.jobfile.specs.Faults.{Standing, beforeHead, inTurn, known, check, fitsLayout, shapeFault, fillFault, ownFault, lineFault, standsAfter}
 use Rattle.jobfile.specs.Held.{tileCount, GoodShapes, Sound}
-use Rattle.jobfile.proofs.Tests.{unless-none}
+use Rattle.jobfile.proofs.Faultless.{check-passes, NoFault, no-fault, NoShapeFault, no-shape-fault, NoFillFault, no-fill-fault}
 use Rattle.jobfile.proofs.Tables.{getD-zeros}
-
--- ---- a good line, test by test
-
-pub record NoFault (st : Standing) (f : Form) : Type 0 where
-  pub spelled : known f ≡ true
-  pub range : inRange f ≡ true
-  pub turn : inTurn (st .turn) f ≡ true
-  pub own : ownFault st f ≡ 0
-
-pub no-fault : (st : Standing) (f : Form) → lineFault st f ≡ 0 → NoFault st f
-unfolding lineFault
-no-fault st f e =
-    let a = unless-none (known f) 2 (unless (inRange f) 3 (unless (inTurn (st .turn) f) 4 (ownFault st f))) (lit< tt) e in
-    let b = unless-none (inRange f) 3 (unless (inTurn (st .turn) f) 4 (ownFault st f)) (lit< tt) (a .1) in
-    let c = unless-none (inTurn (st .turn) f) 4 (ownFault st f) (lit< tt) (b .1) in
-    record { spelled = a .0; range = b .0; turn = c .0; own = c .1 }
-
-pub record NoShapeFault (st : Standing) (r : Rect) : Type 0 where
-  pub fits : fitsLayout (st .head) r ≡ true
-  pub room : length (st .shapes) < mostShapes
-  pub free : sharesSquare (st .shapes) r ≡ false
-
-pub no-shape-fault : (st : Standing) (r : Rect) → shapeFault st r ≡ 0 → NoShapeFault st r
-unfolding shapeFault
-no-shape-fault st r e =
-    let room = ltb (length (st .shapes)) mostShapes in
-    let free = not (sharesSquare (st .shapes) r) in
-    let a = unless-none (fitsLayout (st .head) r) 6 (unless room 8 (unless free 9 0)) (lit< tt) e in
-    let b = unless-none room 8 (unless free 9 0) (lit< tt) (a .1) in
-    let c = unless-none free 9 0 (lit< tt) (b .1) in
-    record { fits = a .0; room = ltb-true _ _ (b .0); free = not-true _ (c .0) }
-
-pub record NoFillFault (st : Standing) (i j p : ℕ) : Type 0 where
-  pub column : i < tilesAcross (st .head)
-  pub row : j < tilesAcross (st .head)
-  pub free : numberAt (st .amounts) (tilesAcross (st .head)) i j ≡ 0
-  pub fits : p ≤ fillableArea (st .head .gap) (st .shapes) (tile (tileSide (st .head)) i j)
-
-pub no-fill-fault : (st : Standing) (i j p : ℕ) → fillFault st i j p ≡ 0 → NoFillFault st i j p
-unfolding fillFault
-no-fill-fault st i j p e =
-    let inside = ltb i (tilesAcross (st .head)) && ltb j (tilesAcross (st .head)) in
-    let free = eqb (numberAt (st .amounts) (tilesAcross (st .head)) i j) 0 in
-    let fits = leb p (fillableArea (st .head .gap) (st .shapes) (tile (tileSide (st .head)) i j)) in
-    let a = unless-none inside 7 (unless free 10 (unless fits 11 0)) (lit< tt) e in
-    let b = unless-none free 10 (unless fits 11 0) (lit< tt) (a .1) in
-    let c = unless-none fits 11 0 (lit< tt) (b .1) in
-    let k = both (ltb i (tilesAcross (st .head))) (ltb j (tilesAcross (st .head))) (a .0) in
-    record { column = ltb-true _ _ (k .0); row = ltb-true _ _ (k .1); free = eqb-true _ _ (b .0); fits = leb-true _ _ (c .0) }
 
 -- ---- the turn
 
@@ -102,7 +53,7 @@ not-before e = let z : _≡_ {A = ℕ} 0 1 = cc in absurd (omega arith)
 
 -- ---- one more rectangle
 
-good-more : (h : Head) (rs : List Rect) (r : Rect) → GoodShapes h rs → rectInRange r ≡ true → fitsLayout h r ≡ true → GoodShapes h (rs ++ (r ∷ []))
+good-more : (h : Head) (rs : List Rect) (r : Rect) → GoodShapes h rs → rectInRange unitLimits r ≡ true → fitsLayout h r ≡ true → GoodShapes h (rs ++ (r ∷ []))
 unfolding GoodShapes
 good-more h [] r g e f = (e, f, tt)
 good-more h (q ∷ rs) r g e f = (g .0, g .1, good-more h rs r (g .2) e f)
@@ -126,12 +77,12 @@ amount-set t l i j p u v bound e hi hj hu hv fits old = go (ℕ-discrete (v * t 
 
 -- ---- one more line
 
-after-heading : (st : Standing) (h : Head) → NoFault st (Heading h) → Sound (standsAfter st (Heading h))
+after-heading : (st : Standing) (h : Head) → NoFault unitLimits st (Heading h) → Sound (standsAfter st (Heading h))
 unfolding standsAfter GoodShapes Disjoint
 after-heading st h g =
     record {
       start = not-before;
-      headed = λ n. record { range = g .range; agreement = unless-none (agrees h) 5 0 (lit< tt) (g .own) .0 };
+      headed = λ n. record { range = g .range; agreement = check-passes (agrees unitLimits h) 5 0 (lit< tt) (g .own) .0 };
       few = lit≤ tt;
       good = tt;
       apart = tt;
@@ -140,7 +91,7 @@ after-heading st h g =
       fillable = λ i j hi hj. omega (arith, getD-zeros (tileCount h) (tileIndex (tilesAcross h) i j));
     }
 
-after-shape : (st : Standing) (r : Rect) → Sound st → NoFault st (Shape r) → Sound (standsAfter st (Shape r))
+after-shape : (st : Standing) (r : Rect) → Sound st → NoFault unitLimits st (Shape r) → Sound (standsAfter st (Shape r))
 unfolding standsAfter
 after-shape st r s g =
     record {
@@ -154,13 +105,13 @@ after-shape st r s g =
       fillable = λ i j hi hj. omega (arith, ap (λ (l : List ℕ). numberAt l (tilesAcross (st .head)) i j) none, getD-zeros (tileCount (st .head)) (tileIndex (tilesAcross (st .head)) i j));
     }
   where
-    k : NoShapeFault st r
-    k = no-shape-fault st r (g .own)
+    k : NoShapeFault unitLimits st r
+    k = no-shape-fault unitLimits st r (g .own)
 
     none : st .amounts ≡ replicate (tileCount (st .head)) 0
     none = s .unfilled (shape-turn (st .turn) r (g .turn))
 
-after-fill : (st : Standing) (i j p : ℕ) → Sound st → NoFault st (Fill i j p) → Sound (standsAfter st (Fill i j p))
+after-fill : (st : Standing) (i j p : ℕ) → Sound st → NoFault unitLimits st (Fill i j p) → Sound (standsAfter st (Fill i j p))
 unfolding standsAfter
 after-fill st i j p s g =
     record {
@@ -179,7 +130,7 @@ after-fill st i j p s g =
     k : NoFillFault st i j p
     k = no-fill-fault st i j p (g .own)
 
-after-end : (st : Standing) → Sound st → NoFault st End → Sound (standsAfter st End)
+after-end : (st : Standing) → Sound st → NoFault unitLimits st End → Sound (standsAfter st End)
 unfolding standsAfter
 after-end st s g =
     record {
@@ -193,19 +144,19 @@ after-end st s g =
       fillable = s .fillable;
     }
 
-sound-next : (st : Standing) (f : Form) → Sound st → NoFault st f → Sound (standsAfter st f)
+sound-next : (st : Standing) (f : Form) → Sound st → NoFault unitLimits st f → Sound (standsAfter st f)
 sound-next st Unknown s g = absurd (false≢true (g .spelled))
 sound-next st (Heading h) s g = after-heading st h g
 sound-next st (Shape r) s g = after-shape st r s g
 sound-next st (Fill i j p) s g = after-fill st i j p s g
 sound-next st End s g = after-end st s g
 
-pub sound-after : (st : Standing) (f : Form) → Sound st → lineFault st f ≡ 0 → Sound (standsAfter st f)
-sound-after st f s e = sound-next st f s (no-fault st f e)
+pub sound-after : (st : Standing) (f : Form) → Sound st → lineFault unitLimits st f ≡ 0 → Sound (standsAfter st f)
+sound-after st f s e = sound-next st f s (no-fault unitLimits st f e)
 
-pub sound-nothing : Sound nothing
+pub sound-start : Sound beforeHead
 unfolding GoodShapes Disjoint
-sound-nothing =
+sound-start =
     record {
       start = λ e. refl;
       headed = λ n. absurd (n refl);

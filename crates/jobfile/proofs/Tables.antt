@@ -14,10 +14,10 @@ use Rattle.geometry.specs.Layout.{rectsOf, Disjoint, Drawn}
 use Rattle.geometry.proofs.Tables.{rects-more}
 use Rattle.spelling.proofs.Numerals.{both}
 use Rattle.jobfile.specs.declared.Head.{Head}
-use Rattle.jobfile.specs.Limits.{mostSide}
+use Rattle.jobfile.specs.Limits.{Limits, unitLimits}
 use Rattle.jobfile.specs.Forms.{within, rectInRange}
-use Rattle.jobfile.specs.Held.{GoodShapes, withShape, tableOf}
-use Rattle.jobfile.proofs.Heads.{between}
+use Rattle.jobfile.specs.Held.{rectsRoom, GoodShapes, withShape, tableOf}
+use Rattle.jobfile.proofs.Heads.{Between, between}
 
 abbrev pub fourOf : Rect → List ℕ
 fourOf r = r .x1 ∷ r .y1 ∷ r .x2 ∷ r .y2 ∷ []
@@ -98,31 +98,42 @@ zeros-later l m n k e = sym (drop-drop n m l) ∙ ap (drop n) e ∙ drop-zeros n
 -- ---- ranges
 
 -- the corners of a rectangle in range
-pub corners : (r : Rect) → rectInRange r ≡ true → (r .x1 ≤ mostSide) × (r .y1 ≤ mostSide) × (r .x2 ≤ mostSide) × (r .y2 ≤ mostSide)
-corners r e =
-    (between 0 mostSide (r .x1) (a .0) .most, between 0 mostSide (r .y1) (a .1) .most, between 0 mostSide (r .x2) (b .0) .most, between 0 mostSide (r .y2) (b .1) .most)
+pub record Corners (m : Limits) (r : Rect) : Type 0 where
+  pub left : Between 0 (m .side) (r .x1)
+  pub low : Between 0 (m .side) (r .y1)
+  pub right : Between 0 (m .side) (r .x2)
+  pub high : Between 0 (m .side) (r .y2)
+
+pub corners : (m : Limits) (r : Rect) → rectInRange m r ≡ true → Corners m r
+corners m r e =
+    record {
+      left = between 0 (m .side) (r .x1) (a .0);
+      low = between 0 (m .side) (r .y1) (a .1);
+      right = between 0 (m .side) (r .x2) (b .0);
+      high = between 0 (m .side) (r .y2) (b .1);
+    }
   where
-    ends : ((within 0 mostSide (r .x1) && within 0 mostSide (r .y1)) ≡ true) × ((within 0 mostSide (r .x2) && within 0 mostSide (r .y2)) ≡ true)
-    ends = both (within 0 mostSide (r .x1) && within 0 mostSide (r .y1)) (within 0 mostSide (r .x2) && within 0 mostSide (r .y2)) e
+    ends : ((within 0 (m .side) (r .x1) && within 0 (m .side) (r .y1)) ≡ true) × ((within 0 (m .side) (r .x2) && within 0 (m .side) (r .y2)) ≡ true)
+    ends = both (within 0 (m .side) (r .x1) && within 0 (m .side) (r .y1)) (within 0 (m .side) (r .x2) && within 0 (m .side) (r .y2)) e
 
-    a : (within 0 mostSide (r .x1) ≡ true) × (within 0 mostSide (r .y1) ≡ true)
-    a = both (within 0 mostSide (r .x1)) (within 0 mostSide (r .y1)) (ends .0)
+    a : (within 0 (m .side) (r .x1) ≡ true) × (within 0 (m .side) (r .y1) ≡ true)
+    a = both (within 0 (m .side) (r .x1)) (within 0 (m .side) (r .y1)) (ends .0)
 
-    b : (within 0 mostSide (r .x2) ≡ true) × (within 0 mostSide (r .y2) ≡ true)
-    b = both (within 0 mostSide (r .x2)) (within 0 mostSide (r .y2)) (ends .1)
+    b : (within 0 (m .side) (r .x2) ≡ true) × (within 0 (m .side) (r .y2) ≡ true)
+    b = both (within 0 (m .side) (r .x2)) (within 0 (m .side) (r .y2)) (ends .1)
 
--- every number of a table of good rectangles is at most 65,535
-pub table-small : (h : Head) (rs : List Rect) → GoodShapes h rs → (i : ℕ) → getD (tableOf rs) i 0 ≤ mostSide
+-- no number of a table of good rectangles is past the greatest side
+pub table-small : (h : Head) (rs : List Rect) → GoodShapes h rs → (i : ℕ) → getD (tableOf rs) i 0 ≤ unitLimits .side
 unfolding tableOf GoodShapes
 table-small h [] g i = lit≤ tt
-table-small h (r ∷ rs) g zero = corners r (g .0) .0
-table-small h (r ∷ rs) g (suc zero) = corners r (g .0) .1
-table-small h (r ∷ rs) g (suc (suc zero)) = corners r (g .0) .2
-table-small h (r ∷ rs) g (suc (suc (suc zero))) = corners r (g .0) .3
+table-small h (r ∷ rs) g zero = corners unitLimits r (g .0) .left .most
+table-small h (r ∷ rs) g (suc zero) = corners unitLimits r (g .0) .low .most
+table-small h (r ∷ rs) g (suc (suc zero)) = corners unitLimits r (g .0) .right .most
+table-small h (r ∷ rs) g (suc (suc (suc zero))) = corners unitLimits r (g .0) .high .most
 table-small h (r ∷ rs) g (suc (suc (suc (suc i)))) = table-small h rs (g .2) i
 
 -- the rectangles so far are a drawn table
-pub drawn-so-far : (h : Head) (l : List ℕ) (c : ℕ) → 4 * c ≤ 1024 → length l ≡ 1024 → GoodShapes h (rectsOf (take (4 * c) l)) →
+pub drawn-so-far : (h : Head) (l : List ℕ) (c : ℕ) → 4 * c ≤ rectsRoom → length l ≡ rectsRoom → GoodShapes h (rectsOf (take (4 * c) l)) →
     Disjoint (rectsOf (take (4 * c) l)) → Drawn (take (4 * c) l)
 drawn-so-far h l c n e g d =
     record {

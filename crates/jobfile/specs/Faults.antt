@@ -13,7 +13,7 @@ use Rattle.jobfile.specs.declared.Form.{Form}
 use Rattle.jobfile.specs.declared.Form.the-variants.{Unknown, Heading, Shape, Fill, End}
 use Rattle.jobfile.specs.declared.Turn.{Turn}
 use Rattle.jobfile.specs.declared.Turn.the-variants.{Before, Shapes, Fills, Done}
-use Rattle.jobfile.specs.Limits.{mostShapes}
+use Rattle.jobfile.specs.Limits.{Limits}
 use Rattle.jobfile.specs.Forms.{inRange, tileSide, tilesAcross, agrees}
 
 -- what already stands: the turn, the head, the rectangles in file order, the amounts row by row
@@ -26,8 +26,9 @@ pub record Standing : Type 0 where
 abbrev pub noHead : Head
 noHead = record { size = 0; window = 0; cut = 0; gap = 0; lower = 0; upper = 0; accuracy = 0; levels = 0 }
 
-abbrev pub nothing : Standing
-nothing = record { turn = Before; head = noHead; shapes = []; amounts = [] }
+-- what stands before the first line
+abbrev pub beforeHead : Standing
+beforeHead = record { turn = Before; head = noHead; shapes = []; amounts = [] }
 
 -- where a form comes in a file; 0 for a line that is none of the spellings
 abbrev pub rankOf : Form → ℕ
@@ -48,47 +49,47 @@ inTurn Shapes f = leb 2 (rankOf f)
 inTurn Fills f = leb 3 (rankOf f)
 inTurn Done f = false
 
--- a number where a test fails, else what the tests after it give
-abbrev pub unless : Bool → ℕ → ℕ → ℕ
-unless good number other = elim good [ true ↦ other | false ↦ number ]
+-- a test for a fault: the fault's number where it fails, else what the tests after it give
+abbrev pub check : (passes : Bool) (fault next : ℕ) → ℕ
+check passes fault next = elim passes [ true ↦ next | false ↦ fault ]
 
 -- X1 < X2, Y1 < Y2, and X2 and Y2 at most N
 abbrev pub fitsLayout : Head → Rect → Bool
 fitsLayout h r = (ltb (r .x1) (r .x2) && ltb (r .y1) (r .y2)) && (leb (r .x2) (h .size) && leb (r .y2) (h .size))
 
 -- the faults of a rectangle
-unfoldable pub shapeFault : Standing → Rect → ℕ
-shapeFault st r =
+unfoldable pub shapeFault : Limits → Standing → Rect → ℕ
+shapeFault m st r =
     -- 6: X1 ≥ X2 or Y1 ≥ Y2, or X2 or Y2 exceeds N
-    unless (fitsLayout (st .head) r) 6
-    -- 8: 256 rectangles stand already
-    (unless (ltb (length (st .shapes)) mostShapes) 8
+    check (fitsLayout (st .head) r) 6
+    -- 8: as many rectangles as are allowed stand already
+    (check (ltb (length (st .shapes)) (m .shapes)) 8
     -- 9: it shares a unit square with one that stands
-    (unless (not (sharesSquare (st .shapes) r)) 9
+    (check (not (sharesSquare (st .shapes) r)) 9
     0))
 
 -- the faults of a fill
 unfoldable pub fillFault : Standing → (i j p : ℕ) → ℕ
 fillFault st i j p =
     -- 7: I or J is not below N/(W/R)
-    unless (ltb i (tilesAcross (st .head)) && ltb j (tilesAcross (st .head))) 7
+    check (ltb i (tilesAcross (st .head)) && ltb j (tilesAcross (st .head))) 7
     -- 10: the tile has a fill already, which is an amount other than 0, since fault 3 refuses P = 0
-    (unless (eqb (numberAt (st .amounts) (tilesAcross (st .head)) i j) 0) 10
+    (check (eqb (numberAt (st .amounts) (tilesAcross (st .head)) i j) 0) 10
     -- 11: P exceeds the tile's fillable area
-    (unless (leb p (fillableArea (st .head .gap) (st .shapes) (tile (tileSide (st .head)) i j))) 11
+    (check (leb p (fillableArea (st .head .gap) (st .shapes) (tile (tileSide (st .head)) i j))) 11
     0))
 
 -- the faults that a form of its own kind may have; 5: the head disagrees. An unknown form does not come here: `lineFault`
-abbrev pub ownFault : Standing → Form → ℕ
-ownFault st Unknown = 2
-ownFault st (Heading h) = unless (agrees h) 5 0
-ownFault st (Shape r) = shapeFault st r
-ownFault st (Fill i j p) = fillFault st i j p
-ownFault st End = 0
+abbrev pub ownFault : Limits → Standing → Form → ℕ
+ownFault m st Unknown = 2
+ownFault m st (Heading h) = check (agrees m h) 5 0
+ownFault m st (Shape r) = shapeFault m st r
+ownFault m st (Fill i j p) = fillFault st i j p
+ownFault m st End = 0
 
 -- the lowest number of a fault that a line has, 0 for none: 2 none of the spellings, 3 out of range, 4 out of turn, then the others
-unfoldable pub lineFault : Standing → Form → ℕ
-lineFault st f = unless (known f) 2 (unless (inRange f) 3 (unless (inTurn (st .turn) f) 4 (ownFault st f)))
+unfoldable pub lineFault : Limits → Standing → Form → ℕ
+lineFault m st f = check (known f) 2 (check (inRange m f) 3 (check (inTurn (st .turn) f) 4 (ownFault m st f)))
 
 -- what stands after a good line, which is never an unknown form
 unfoldable pub standsAfter : Standing → Form → Standing

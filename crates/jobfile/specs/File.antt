@@ -7,9 +7,9 @@ use lib.ListN.{length}
 use Rattle.spelling.specs.Text.{parts}
 use Rattle.jobfile.specs.declared.Turn.{Turn}
 use Rattle.jobfile.specs.declared.Turn.the-variants.{Before, Shapes, Fills, Done}
-use Rattle.jobfile.specs.Limits.{mostBytes}
+use Rattle.jobfile.specs.Limits.{Limits}
 use Rattle.jobfile.specs.Forms.{formOf}
-use Rattle.jobfile.specs.Faults.{Standing, nothing, lineFault, standsAfter}
+use Rattle.jobfile.specs.Faults.{Standing, beforeHead, lineFault, standsAfter}
 
 -- what a file comes to: the number and line of its first fault, or what stands at its end
 pub data Outcome : Type 0 where
@@ -28,14 +28,14 @@ afterLast st k [] = atEnd (st .turn) k st
 afterLast st k (b ∷ s) = refused 2 k
 
 -- the lines from line k on, as the pieces of the file between its line feeds; there is always one, so the empty list does not come here
-unfoldable pub readLines : Standing → (k : ℕ) → List (List ℕ) → Outcome
-readLines st k [] = atEnd (st .turn) k st
-readLines st k (line ∷ []) = afterLast st k line
-readLines st k (line ∷ next ∷ more) =
-    let fault = lineFault st (formOf line) in
-    let rest = readLines (standsAfter st (formOf line)) (suc k) (next ∷ more) in
+unfoldable pub readLines : Limits → Standing → (k : ℕ) → List (List ℕ) → Outcome
+readLines m st k [] = atEnd (st .turn) k st
+readLines m st k (line ∷ []) = afterLast st k line
+readLines m st k (line ∷ next ∷ more) =
+    let fault = lineFault m st (formOf m line) in
+    let rest = readLines m (standsAfter st (formOf m line)) (suc k) (next ∷ more) in
     elim (eqb fault 0) [ true ↦ rest | false ↦ refused fault k ]
 
--- the whole file
-unfoldable pub outcomeOf : List ℕ → Outcome
-outcomeOf file = elim (leb (length file) mostBytes) [ true ↦ readLines nothing 1 (parts file) | false ↦ refused 1 0 ]
+-- the whole file. `Acceptance` in specs/Acceptance.antt says the same without reading line by line
+unfoldable pub outcomeOf : Limits → List ℕ → Outcome
+outcomeOf m file = elim (leb (length file) (m .bytes)) [ true ↦ readLines m beforeHead 1 (parts file) | false ↦ refused 1 0 ]

@@ -1,4 +1,4 @@
--- Document 01, "The job file": the four forms, how each is spelled, the ranges of their numbers.
+-- Document 01, "The job file": the four forms, how each is spelled, the ranges of their numbers under some limits.
 use Prim.Native.Nat.{ℕ, _-_, _/_, _%_}
 use mathlib.Core.Bool.{Bool, true, _&&_}
 use mathlib.Core.List.{List}
@@ -11,7 +11,7 @@ use Rattle.spelling.specs.Pattern.{readAs}
 use Rattle.jobfile.specs.declared.Head.{Head}
 use Rattle.jobfile.specs.declared.Form.{Form}
 use Rattle.jobfile.specs.declared.Form.the-variants.{Unknown, Heading, Shape, Fill, End}
-use Rattle.jobfile.specs.Limits.{mostDigits, mostSide, mostTiles, mostBound, mostAccuracy, mostLevels, mostAmount}
+use Rattle.jobfile.specs.Limits.{Limits}
 
 -- the spellings, without the line feed; each # is a number
 unfoldable pub headPattern : List ℕ
@@ -55,38 +55,40 @@ abbrev pub formIf : Option (List ℕ) → (List ℕ → Form) → Form → Form
 formIf none form other = other
 formIf (some ns) form other = form ns
 
--- the form that a line spells, without its line feed
-unfoldable pub formOf : List ℕ → Form
-formOf line =
-    formIf (readAs mostDigits headPattern line) headingForm
-    (formIf (readAs mostDigits rectPattern line) shapeForm
-    (formIf (readAs mostDigits fillPattern line) fillForm
-    (formIf (readAs mostDigits endPattern line) endForm
+-- the form that a line spells, without its line feed. `Spells` in specs/Acceptance.antt says the same without reading: the line is the form's
+-- spelling
+unfoldable pub formOf : Limits → List ℕ → Form
+formOf m line =
+    formIf (readAs (m .digits) headPattern line) headingForm
+    (formIf (readAs (m .digits) rectPattern line) shapeForm
+    (formIf (readAs (m .digits) fillPattern line) fillForm
+    (formIf (readAs (m .digits) endPattern line) endForm
     Unknown)))
 
 abbrev pub within : (lo hi n : ℕ) → Bool
 within lo hi n = leb lo n && leb n hi
 
 -- the table of ranges
-abbrev pub headInRange : Head → Bool
-headInRange h =
-    (within 1 mostSide (h .size) && within 1 mostSide (h .window))
-    && (within 1 mostTiles (h .cut) && within 0 mostSide (h .gap))
-    && (within 0 mostBound (h .lower) && within 0 mostBound (h .upper))
-    && (within 0 mostAccuracy (h .accuracy) && within 1 mostLevels (h .levels))
+abbrev pub headInRange : Limits → Head → Bool
+headInRange m h =
+    (within 1 (m .side) (h .size) && within 1 (m .side) (h .window))
+    && (within 1 (m .tiles) (h .cut) && within 0 (m .side) (h .gap))
+    && (within 0 (m .bound) (h .lower) && within 0 (m .bound) (h .upper))
+    && (within 0 (m .accuracy) (h .accuracy) && within 1 (m .levels) (h .levels))
 
-abbrev pub rectInRange : Rect → Bool
-rectInRange r = (within 0 mostSide (r .x1) && within 0 mostSide (r .y1)) && (within 0 mostSide (r .x2) && within 0 mostSide (r .y2))
+abbrev pub rectInRange : Limits → Rect → Bool
+rectInRange m r =
+    (within 0 (m .side) (r .x1) && within 0 (m .side) (r .y1)) && (within 0 (m .side) (r .x2) && within 0 (m .side) (r .y2))
 
-abbrev pub fillInRange : (column row amount : ℕ) → Bool
-fillInRange i j p = within 0 (mostTiles - 1) i && within 0 (mostTiles - 1) j && within 1 mostAmount p
+abbrev pub fillInRange : Limits → (column row amount : ℕ) → Bool
+fillInRange m i j p = within 0 (m .tiles - 1) i && within 0 (m .tiles - 1) j && within 1 (m .amount) p
 
-abbrev pub inRange : Form → Bool
-inRange Unknown = true
-inRange (Heading h) = headInRange h
-inRange (Shape r) = rectInRange r
-inRange (Fill i j p) = fillInRange i j p
-inRange End = true
+abbrev pub inRange : Limits → Form → Bool
+inRange m Unknown = true
+inRange m (Heading h) = headInRange m h
+inRange m (Shape r) = rectInRange m r
+inRange m (Fill i j p) = fillInRange m i j p
+inRange m End = true
 
 -- the tile side W/R, and N/(W/R), the number of tiles across the layout
 abbrev pub tileSide : Head → ℕ
@@ -95,9 +97,9 @@ tileSide h = h .window / h .cut
 abbrev pub tilesAcross : Head → ℕ
 tilesAcross h = h .size / tileSide h
 
--- the head agrees: W ≤ N, R divides W, W/R divides N, N/(W/R) ≤ 64 and L ≤ U
-abbrev pub agrees : Head → Bool
-agrees h =
+-- the head agrees: W ≤ N, R divides W, W/R divides N, N/(W/R) is at most the tiles across a layout, and L ≤ U
+abbrev pub agrees : Limits → Head → Bool
+agrees m h =
     leb (h .window) (h .size)
     && (eqb (h .window % h .cut) 0 && eqb (h .size % tileSide h) 0)
-    && (leb (tilesAcross h) mostTiles && leb (h .lower) (h .upper))
+    && (leb (tilesAcross h) (m .tiles) && leb (h .lower) (h .upper))

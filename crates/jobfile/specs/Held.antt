@@ -7,7 +7,7 @@ use mathlib.Core.List.{List, [], _∷_, _++_}
 use lib.Dec.{ltb, eqb}
 use lib.ListN.{length, take, drop, set, replicate}
 use Rattle.geometry.specs.declared.Rect.{Rect}
-use Rattle.geometry.specs.Layout.{Disjoint, rectsOf}
+use Rattle.geometry.specs.Layout.{Disjoint, Drawn, rectsOf}
 use Rattle.spelling.specs.Scanning.{lineLength}
 use Rattle.fill.specs.Eligible.{tile, fillableArea}
 use Rattle.fill.specs.Judge.{numberAt}
@@ -19,10 +19,17 @@ use Rattle.jobfile.specs.declared.State.{State}
 use Rattle.jobfile.specs.declared.Step.{Step}
 use Rattle.jobfile.specs.declared.Ending.{Ending}
 use Rattle.jobfile.specs.declared.Job.{Job}
-use Rattle.jobfile.specs.Limits.{mostShapes, mostTiles}
+use Rattle.jobfile.specs.Limits.{Limits, unitLimits}
 use Rattle.jobfile.specs.Forms.{formOf, headInRange, rectInRange, tileSide, tilesAcross, agrees}
-use Rattle.jobfile.specs.Faults.{Standing, nothing, noHead, fitsLayout, lineFault, standsAfter}
+use Rattle.jobfile.specs.Faults.{Standing, beforeHead, noHead, fitsLayout, lineFault, standsAfter}
 use Rattle.jobfile.specs.File.{Outcome, refused, accepted}
+
+-- the numbers that the two tables have room for: four to a rectangle, one to a tile
+abbrev pub rectsRoom : ℕ
+rectsRoom = 4 * unitLimits .shapes
+
+abbrev pub amountsRoom : ℕ
+amountsRoom = unitLimits .tiles * unitLimits .tiles
 
 -- the number of tiles of a layout
 abbrev pub tileCount : Head → ℕ
@@ -35,19 +42,19 @@ standing s rects amounts =
 
 -- a head that was good
 pub record GoodHead (h : Head) : Type 0 where
-  pub range : headInRange h ≡ true
-  pub agreement : agrees h ≡ true
+  pub range : headInRange unitLimits h ≡ true
+  pub agreement : agrees unitLimits h ≡ true
 
 -- every rectangle was in range and fits the layout
 unfoldable pub GoodShapes : Head → List Rect → Type 0
 GoodShapes h [] = Unit {0}
-GoodShapes h (r ∷ rs) = (rectInRange r ≡ true) × (fitsLayout h r ≡ true) × GoodShapes h rs
+GoodShapes h (r ∷ rs) = (rectInRange unitLimits r ≡ true) × (fitsLayout h r ≡ true) × GoodShapes h rs
 
 -- what is so after good lines
 pub record Sound (st : Standing) : Type 0 where
-  pub start : st .turn ≡ Before → st ≡ nothing
+  pub start : st .turn ≡ Before → st ≡ beforeHead
   pub headed : (st .turn ≡ Before → ⊥) → GoodHead (st .head)
-  pub few : length (st .shapes) ≤ mostShapes
+  pub few : length (st .shapes) ≤ unitLimits .shapes
   pub good : GoodShapes (st .head) (st .shapes)
   pub apart : Disjoint (st .shapes)
   pub sized : length (st .amounts) ≡ tileCount (st .head)
@@ -57,13 +64,30 @@ pub record Sound (st : Standing) : Type 0 where
 
 -- a state and its tables hold what stands: 0 behind the rectangles and behind the amounts
 pub record Held (s : State) (rects amounts : List ℕ) : Type 0 where
-  pub room : length rects ≡ 1024
-  pub cells : length amounts ≡ 4096
-  pub count : s .count ≤ mostShapes
-  pub tiles : tileCount (s .head) ≤ 4096
-  pub behind : drop (4 * s .count) rects ≡ replicate (1024 - 4 * s .count) 0
-  pub beyond : drop (tileCount (s .head)) amounts ≡ replicate (4096 - tileCount (s .head)) 0
+  pub room : length rects ≡ rectsRoom
+  pub cells : length amounts ≡ amountsRoom
+  pub count : s .count ≤ unitLimits .shapes
+  pub tiles : tileCount (s .head) ≤ amountsRoom
+  pub behind : drop (4 * s .count) rects ≡ replicate (rectsRoom - 4 * s .count) 0
+  pub beyond : drop (tileCount (s .head)) amounts ≡ replicate (amountsRoom - tileCount (s .head)) 0
   pub sound : Sound (standing s rects amounts)
+
+-- the rectangles that a state counts are in the table, and drawn
+pub record ShapesHeld (s : State) (rects : List ℕ) : Type 0 where
+  pub within : 4 * s .count ≤ length rects
+  pub drawn : Drawn (take (4 * s .count) rects)
+
+-- tile (i, j) lies in the layout, which has no more tiles than are allowed
+pub record TileIn (h : Head) (i j : ℕ) : Type 0 where
+  pub few : tilesAcross h ≤ unitLimits .tiles
+  pub column : i < tilesAcross h
+  pub row : j < tilesAcross h
+
+-- what the fillable area of tile (i, j) asks
+pub record TileAsked (s : State) (rects : List ℕ) (i j : ℕ) : Type 0 where
+  pub shapes : ShapesHeld s rects
+  pub head : GoodHead (s .head)
+  pub tile : TileIn (s .head) i j
 
 -- a table with the four numbers of a rectangle stored behind n rectangles
 abbrev pub withShape : List ℕ → ℕ → Rect → List ℕ
@@ -79,14 +103,14 @@ abbrev pub firstLine : List ℕ → List ℕ
 firstLine rest = take (lineLength rest) rest
 
 -- its fault: 2 where it has no line feed
-abbrev pub firstFault : Standing → List ℕ → ℕ
-firstFault st rest = elim (ltb (lineLength rest) (length rest)) [ true ↦ lineFault st (formOf (firstLine rest)) | false ↦ 2 ]
+abbrev pub firstFault : Limits → Standing → List ℕ → ℕ
+firstFault m st rest = elim (ltb (lineLength rest) (length rest)) [ true ↦ lineFault m st (formOf m (firstLine rest)) | false ↦ 2 ]
 
 -- the first line of what is left was read, and entered where it is good
 pub record LineRead (rest : List ℕ) (s : State) (rects amounts : List ℕ) (r : Step) (rects′ amounts′ : List ℕ) : Type 0 where
-  pub fault : r .fault ≡ firstFault (standing s rects amounts) rest
+  pub fault : r .fault ≡ firstFault unitLimits (standing s rects amounts) rest
   pub used : r .used ≡ lineLength rest + 1
-  pub good : r .fault ≡ 0 → Entered s rects amounts (formOf (firstLine rest)) (r .state) rects′ amounts′
+  pub good : r .fault ≡ 0 → Entered s rects amounts (formOf unitLimits (firstLine rest)) (r .state) rects′ amounts′
   pub bad : (r .fault ≡ 0 → ⊥) → (r .state ≡ s) × (rects′ ≡ rects) × (amounts′ ≡ amounts)
 
 -- the fault after the last line: 12 where no (end) was read
@@ -108,15 +132,15 @@ padded n s = s ++ replicate (n - length s) 0
 -- the outcome as the reader returns it
 abbrev pub asJob : Outcome → Job
 asJob (refused number line) =
-    record { fault = number; line = line; head = noHead; count = 0; rects = replicate (4 * mostShapes) 0; amounts = replicate (mostTiles * mostTiles) 0 }
+    record { fault = number; line = line; head = noHead; count = 0; rects = replicate rectsRoom 0; amounts = replicate amountsRoom 0 }
 asJob (accepted st) =
     record {
       fault = 0;
       line = 0;
       head = st .head;
       count = length (st .shapes);
-      rects = padded (4 * mostShapes) (tableOf (st .shapes));
-      amounts = padded (mostTiles * mostTiles) (st .amounts);
+      rects = padded rectsRoom (tableOf (st .shapes));
+      amounts = padded amountsRoom (st .amounts);
     }
 
 -- the job of an ending and its tables, which count only where no fault was found

@@ -2,4 +2,5 @@ pub mod Limits
 pub mod Forms
 pub mod Faults
 pub mod File
+pub mod Acceptance
 pub mod Held

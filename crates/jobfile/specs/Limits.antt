@@ -1,33 +1,37 @@
--- Document 01, "The job file": the limits and ranges, each once, by name.
-use Prim.Native.Nat.{ℕ}
+-- Document 01, "The job file": the limits of a file and of its numbers. They are a value, so that two sets of limits can be compared.
+use Prim.Native.Nat.{ℕ, _≤_}
 
-abbrev pub mostBytes : ℕ
-mostBytes = 60000
+-- the most that a file may have: bytes of the file, digits of a number, rectangles; and the greatest number of each kind
+pub record Limits : Type 0 where
+  pub bytes : ℕ
+  pub digits : ℕ
+  pub shapes : ℕ
+  -- N, W, B and corners
+  pub side : ℕ
+  -- R, tiles across a window, and tiles across a layout
+  pub tiles : ℕ
+  -- L and U, in ten-thousandths
+  pub bound : ℕ
+  -- E, in thousandths
+  pub accuracy : ℕ
+  -- V
+  pub levels : ℕ
+  -- P
+  pub amount : ℕ
 
-abbrev pub mostDigits : ℕ
-mostDigits = 10
+-- the unit's limits: those of document 01. The contracts cite them
+abbrev pub unitLimits : Limits
+unitLimits =
+    record { bytes = 60000; digits = 10; shapes = 256; side = 65535; tiles = 64; bound = 10000; accuracy = 1000; levels = 6; amount = 4294836225 }
 
-abbrev pub mostShapes : ℕ
-mostShapes = 256
-
--- N, W, B and corners
-abbrev pub mostSide : ℕ
-mostSide = 65535
-
--- R, tiles across a window, and tiles across a layout
-abbrev pub mostTiles : ℕ
-mostTiles = 64
-
--- L and U, in ten-thousandths
-abbrev pub mostBound : ℕ
-mostBound = 10000
-
--- E, in thousandths
-abbrev pub mostAccuracy : ℕ
-mostAccuracy = 1000
-
-abbrev pub mostLevels : ℕ
-mostLevels = 6
-
-abbrev pub mostAmount : ℕ
-mostAmount = 4294836225
+-- every old limit is at most the new one
+pub record Widened (old new : Limits) : Type 0 where
+  pub bytes : old .bytes ≤ new .bytes
+  pub digits : old .digits ≤ new .digits
+  pub shapes : old .shapes ≤ new .shapes
+  pub side : old .side ≤ new .side
+  pub tiles : old .tiles ≤ new .tiles
+  pub bound : old .bound ≤ new .bound
+  pub accuracy : old .accuracy ≤ new .accuracy
+  pub levels : old .levels ≤ new .levels
+  pub amount : old .amount ≤ new .amount

@@ -17,13 +17,14 @@ use geometry::shares_square;
 ghost use mathlib.Core.Path.{_≡_};
 ghost use mathlib.Core.Bool.{true};
 ghost use mathlib.Core.List.{[]};
-ghost use Prim.Native.Nat.{_*_, _≤_, _<_};
-ghost use lib.ListN.{length, take};
-ghost use Rattle.geometry.specs.Layout.{rectsOf, Drawn};
+ghost use Prim.Native.Nat.{_*_};
+ghost use lib.ListN.{take};
+ghost use Rattle.geometry.specs.Layout.{rectsOf};
 ghost use Rattle.fill.specs.Eligible.{tile, fillableArea};
-ghost use Rattle.jobfile.specs.Forms.{tileSide, tilesAcross, agrees};
-ghost use Rattle.jobfile.specs.Faults.{rankOf, known, inTurn, unless, fitsLayout, shapeFault, fillFault, ownFault, lineFault};
-ghost use Rattle.jobfile.specs.Held.{standing, GoodHead, Held};
+ghost use Rattle.jobfile.specs.Limits.{unitLimits};
+ghost use Rattle.jobfile.specs.Forms.{tileSide, agrees};
+ghost use Rattle.jobfile.specs.Faults.{rankOf, known, inTurn, check, fitsLayout, shapeFault, fillFault, ownFault, lineFault};
+ghost use Rattle.jobfile.specs.Held.{standing, GoodHead, Held, ShapesHeld, TileAsked};
 
 // Where a form comes in a file: the head, rectangles, fills, the end; 0 for a
 // line that is none of the spellings.
@@ -73,9 +74,8 @@ fn fits_layout(h: Head, r: Rect) -> bool
 
 // The faults of a rectangle; the amounts play no part in them.
 fn shape_fault(s: State, rects: &[u64], r: Rect) -> u64
-    requires { ⌜ 4 * s .count ≤ length (now rects) ⌝ }
-    requires { ⌜ Drawn (take (4 * s .count) (now rects)) ⌝ }
-    ensures { λ n. ⌜ n ≡ shapeFault (standing s (now (rects .entry)) []) r ⌝ }
+    requires { ⌜ ShapesHeld s (now rects) ⌝ }
+    ensures { λ n. ⌜ n ≡ shapeFault unitLimits (standing s (now (rects .entry)) []) r ⌝ }
 {
     let count = s.count;
     if !fits_layout(s.head, r) {
@@ -93,10 +93,7 @@ fn shape_fault(s: State, rects: &[u64], r: Rect) -> u64
 
 // The fillable area of tile (i, j).
 fn tile_room(s: State, rects: &[u64], i: u64, j: u64) -> u64
-    requires { ⌜ 4 * s .count ≤ length (now rects) ⌝ }
-    requires { ⌜ Drawn (take (4 * s .count) (now rects)) ⌝ }
-    requires { ⌜ GoodHead (s .head) ⌝ }
-    requires { ⌜ (i < tilesAcross (s .head)) × (j < tilesAcross (s .head)) ⌝ }
+    requires { ⌜ TileAsked s (now rects) i j ⌝ }
     ensures { λ r. ⌜ r ≡ fillableArea (s .head .gap) (rectsOf (take (4 * s .count) (now (rects .entry)))) (tile (tileSide (s .head)) i j) ⌝ }
 {
     let head = s.head;
@@ -134,7 +131,7 @@ fn fill_fault(s: State, rects: &[u64], amounts: &[u64], i: u64, j: u64, p: u64) 
 fn own_fault(s: State, f: Form, rects: &[u64], amounts: &[u64]) -> u64
     requires { ⌜ Held s (now rects) (now amounts) ⌝ }
     requires { ⌜ inTurn (s .turn) f ≡ true ⌝ }
-    ensures { λ n. ⌜ n ≡ ownFault (standing s (now (rects .entry)) (now (amounts .entry))) f ⌝ }
+    ensures { λ n. ⌜ n ≡ ownFault unitLimits (standing s (now (rects .entry)) (now (amounts .entry))) f ⌝ }
 {
     match f {
         Form::Unknown => 2,
@@ -150,15 +147,15 @@ fn own_fault(s: State, f: Form, rects: &[u64], amounts: &[u64]) -> u64
 }
 
 fn head_fault(h: Head) -> u64
-    ensures { λ n. ⌜ n ≡ unless (agrees h) 5 0 ⌝ }
+    ensures { λ n. ⌜ n ≡ check (agrees unitLimits h) 5 0 ⌝ }
 {
     if head_agrees(h) { 0 } else { 5 }
 }
 
 // The lowest number of a fault that a line has, 0 for none.
-pub fn line_fault(s: State, f: Form, rects: &[u64], amounts: &[u64]) -> u64
+pub(crate) fn line_fault(s: State, f: Form, rects: &[u64], amounts: &[u64]) -> u64
     requires { ⌜ Held s (now rects) (now amounts) ⌝ }
-    ensures { λ n. ⌜ n ≡ lineFault (standing s (now (rects .entry)) (now (amounts .entry))) f ⌝ }
+    ensures { λ n. ⌜ n ≡ lineFault unitLimits (standing s (now (rects .entry)) (now (amounts .entry))) f ⌝ }
 {
     let turn = s.turn;
     if !is_known(f) {

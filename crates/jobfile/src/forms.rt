@@ -14,7 +14,7 @@ ghost use mathlib.Core.Path.{_≡_};
 ghost use mathlib.Core.Bool.{_&&_};
 ghost use Prim.Native.Nat.{_*_, _/_, _%_, _≤_};
 ghost use lib.Dec.{leb, eqb};
-ghost use Rattle.jobfile.specs.Limits.{mostTiles};
+ghost use Rattle.jobfile.specs.Limits.{unitLimits};
 ghost use Rattle.jobfile.specs.Forms.{headingForm, shapeForm, fillForm, formOf, within, headInRange, rectInRange, fillInRange, inRange, tileSide, tilesAcross, agrees};
 
 // The forms of a spelling's numbers.
@@ -55,8 +55,8 @@ fn fill_form(v: [u64; 8]) -> Form
 }
 
 // The form that a line spells, without its line feed.
-pub fn form_of(line: &[u8]) -> Form
-    ensures { λ r. ⌜ r ≡ formOf (now (line .entry)) ⌝ }
+pub(crate) fn form_of(line: &[u8]) -> Form
+    ensures { λ r. ⌜ r ≡ formOf unitLimits (now (line .entry)) ⌝ }
 {
     let head = read_as(
         line,
@@ -89,7 +89,7 @@ fn in_span(lo: u64, hi: u64, n: u64) -> bool
     lo <= n && n <= hi
 }
 
-pub fn both(a: bool, b: bool) -> bool
+pub(crate) fn both(a: bool, b: bool) -> bool
     ensures { λ r. ⌜ r ≡ (a && b) ⌝ }
 {
     a && b
@@ -102,7 +102,7 @@ fn in_spans(lo: u64, hi: u64, n: u64, low: u64, high: u64, m: u64) -> bool
 }
 
 fn head_in_range(h: Head) -> bool
-    ensures { λ r. ⌜ r ≡ headInRange h ⌝ }
+    ensures { λ r. ⌜ r ≡ headInRange unitLimits h ⌝ }
 {
     let sides = in_spans(1, MOST_SIDE, h.size, 1, MOST_SIDE, h.window);
     let tiles = in_spans(1, MOST_TILES, h.cut, 0, MOST_SIDE, h.gap);
@@ -112,7 +112,7 @@ fn head_in_range(h: Head) -> bool
 }
 
 fn rect_in_range(r: Rect) -> bool
-    ensures { λ t. ⌜ t ≡ rectInRange r ⌝ }
+    ensures { λ t. ⌜ t ≡ rectInRange unitLimits r ⌝ }
 {
     let lower_left = in_spans(0, MOST_SIDE, r.x1, 0, MOST_SIDE, r.y1);
     let upper_right = in_spans(0, MOST_SIDE, r.x2, 0, MOST_SIDE, r.y2);
@@ -120,14 +120,14 @@ fn rect_in_range(r: Rect) -> bool
 }
 
 fn fill_in_range(column: u64, row: u64, amount: u64) -> bool
-    ensures { λ r. ⌜ r ≡ fillInRange column row amount ⌝ }
+    ensures { λ r. ⌜ r ≡ fillInRange unitLimits column row amount ⌝ }
 {
     let tile = in_spans(0, MOST_TILES - 1, column, 0, MOST_TILES - 1, row);
     both(tile, in_span(1, MOST_AMOUNT, amount))
 }
 
-pub fn in_range(f: Form) -> bool
-    ensures { λ r. ⌜ r ≡ inRange f ⌝ }
+pub(crate) fn in_range(f: Form) -> bool
+    ensures { λ r. ⌜ r ≡ inRange unitLimits f ⌝ }
 {
     match f {
         Form::Unknown => true,
@@ -178,7 +178,7 @@ pub fn tiles_across(h: Head) -> u64
 
 // The number of tiles of a layout.
 pub fn tile_count(h: Head) -> usize
-    requires { ⌜ tilesAcross h ≤ 64 ⌝ }
+    requires { ⌜ tilesAcross h ≤ unitLimits .tiles ⌝ }
     ensures { λ r. ⌜ r ≡ tilesAcross h * tilesAcross h ⌝ }
 {
     let across = tiles_across(h);
@@ -195,14 +195,14 @@ fn divides(h: Head) -> bool
 
 // At most 64 tiles lie across the layout, and L is at most U.
 fn few_tiles(h: Head) -> bool
-    ensures { λ r. ⌜ r ≡ (leb (tilesAcross h) mostTiles && leb (h .lower) (h .upper)) ⌝ }
+    ensures { λ r. ⌜ r ≡ (leb (tilesAcross h) (unitLimits .tiles) && leb (h .lower) (h .upper)) ⌝ }
 {
     let tiles = tiles_across(h);
     both(tiles <= MOST_TILES, h.lower <= h.upper)
 }
 
-pub fn head_agrees(h: Head) -> bool
-    ensures { λ r. ⌜ r ≡ agrees h ⌝ }
+pub(crate) fn head_agrees(h: Head) -> bool
+    ensures { λ r. ⌜ r ≡ agrees unitLimits h ⌝ }
 {
     both(both(h.window <= h.size, divides(h)), few_tiles(h))
 }

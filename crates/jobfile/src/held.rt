@@ -9,12 +9,13 @@ ghost use mathlib.Core.Path.{_≡_};
 ghost use Prim.Native.Nat.{_+_, _*_, _≤_, _<_};
 ghost use lib.ListN.{length, set};
 ghost use Rattle.fill.specs.Judge.{tileIndex};
+ghost use Rattle.jobfile.specs.Limits.{unitLimits};
 ghost use Rattle.jobfile.specs.Forms.{tilesAcross};
 ghost use Rattle.jobfile.specs.Faults.{noHead, lineFault};
-ghost use Rattle.jobfile.specs.Held.{standing, Held, withShape, Entered};
+ghost use Rattle.jobfile.specs.Held.{standing, Held, TileIn, withShape, Entered};
 
 // Before the head.
-pub fn no_head() -> Head
+pub(crate) fn no_head() -> Head
     ensures { λ r. ⌜ r ≡ noHead ⌝ }
 {
     Head {
@@ -30,8 +31,8 @@ pub fn no_head() -> Head
 }
 
 // The place of tile (i, j) in the table of amounts.
-pub fn tile_place(h: Head, i: u64, j: u64) -> usize
-    requires { ⌜ (tilesAcross h ≤ 64) × (i < tilesAcross h) × (j < tilesAcross h) ⌝ }
+pub(crate) fn tile_place(h: Head, i: u64, j: u64) -> usize
+    requires { ⌜ TileIn h i j ⌝ }
     ensures { λ r. ⌜ r ≡ tileIndex (tilesAcross h) i j ⌝ }
 {
     let tiles = tiles_across(h);
@@ -52,7 +53,7 @@ fn store_shape(rects: &mut [u64], count: usize, r: Rect)
 
 // Stores the amount of tile (i, j).
 fn store_amount(amounts: &mut [u64], h: Head, i: u64, j: u64, p: u64)
-    requires { ⌜ (tilesAcross h ≤ 64) × (i < tilesAcross h) × (j < tilesAcross h) ⌝ }
+    requires { ⌜ TileIn h i j ⌝ }
     requires { ⌜ tileIndex (tilesAcross h) i j < length (now amounts) ⌝ }
     ensures { λ u. ⌜ now (amounts .exit) ≡ set (now (amounts .entry)) (tileIndex (tilesAcross h) i j) p ⌝ }
 {
@@ -61,9 +62,9 @@ fn store_amount(amounts: &mut [u64], h: Head, i: u64, j: u64, p: u64)
 }
 
 // Enters a good line.
-pub fn enter(s: State, f: Form, rects: &mut [u64], amounts: &mut [u64]) -> State
+pub(crate) fn enter(s: State, f: Form, rects: &mut [u64], amounts: &mut [u64]) -> State
     requires { ⌜ Held s (now rects) (now amounts) ⌝ }
-    requires { ⌜ lineFault (standing s (now rects) (now amounts)) f ≡ 0 ⌝ }
+    requires { ⌜ lineFault unitLimits (standing s (now rects) (now amounts)) f ≡ 0 ⌝ }
     ensures { λ r. ⌜ Entered s (now (rects .entry)) (now (amounts .entry)) f r (now (rects .exit)) (now (amounts .exit)) ⌝ }
 {
     let head = s.head;

@@ -9,10 +9,13 @@ pub use forms::tile_count;
 pub use forms::tile_side;
 pub use forms::tiles_across;
 use geometry::Rect;
+use limits::AMOUNTS_ROOM;
 use limits::MOST_BYTES;
+use limits::RECTS_ROOM;
 use reader::read_lines;
 use reader::refusal;
 ghost use mathlib.Core.Path.{_≡_};
+ghost use Rattle.jobfile.specs.Limits.{unitLimits};
 ghost use Rattle.jobfile.specs.File.{outcomeOf};
 ghost use Rattle.jobfile.specs.Held.{asJob};
 
@@ -53,8 +56,8 @@ pub struct Job {
     pub line: u64,
     pub head: Head,
     pub count: usize,
-    pub rects: [u64; 1024],
-    pub amounts: [u64; 4096],
+    pub rects: [u64; RECTS_ROOM],
+    pub amounts: [u64; AMOUNTS_ROOM],
 }
 
 // What stands while a file is read, beside the two tables.
@@ -82,13 +85,13 @@ struct Ending {
 
 // Reads a job file.
 pub fn read(file: &[u8]) -> Job
-    ensures { λ r. ⌜ r ≡ asJob (outcomeOf (now (file .entry))) ⌝ }
+    ensures { λ r. ⌜ r ≡ asJob (outcomeOf unitLimits (now (file .entry))) ⌝ }
 {
     if MOST_BYTES < file.len() {
         return refusal(1, 0);
     }
-    let mut rects = [0u64; 1024];
-    let mut amounts = [0u64; 4096];
+    let mut rects = [0u64; RECTS_ROOM];
+    let mut amounts = [0u64; AMOUNTS_ROOM];
     let end = read_lines(file, &mut rects, &mut amounts);
     let fault = end.fault;
     if fault != 0 {

@@ -1,24 +1,30 @@
 // The limits and ranges of the job file, each once, by name.
 
-pub const MOST_BYTES: usize = 60000;
+pub(crate) const MOST_BYTES: usize = 60000;
 
-pub const MOST_DIGITS: usize = 10;
+pub(crate) const MOST_DIGITS: usize = 10;
 
-pub const MOST_SHAPES: usize = 256;
+pub(crate) const MOST_SHAPES: usize = 256;
+
+// The table of rectangles, four numbers each.
+pub(crate) const RECTS_ROOM: usize = 4 * MOST_SHAPES;
 
 // N, W, B and corners.
-pub const MOST_SIDE: u64 = 65535;
+pub(crate) const MOST_SIDE: u64 = 65535;
 
 // R, tiles across a window, and tiles across a layout.
-pub const MOST_TILES: u64 = 64;
+pub(crate) const MOST_TILES: u64 = 64;
+
+// The table of amounts, one to a tile.
+pub(crate) const AMOUNTS_ROOM: usize = (MOST_TILES * MOST_TILES) as usize;
 
 // L and U, in ten-thousandths.
-pub const MOST_BOUND: u64 = 10000;
+pub(crate) const MOST_BOUND: u64 = 10000;
 
 // E, in thousandths.
-pub const MOST_ACCURACY: u64 = 1000;
+pub(crate) const MOST_ACCURACY: u64 = 1000;
 
-pub const MOST_LEVELS: u64 = 6;
+pub(crate) const MOST_LEVELS: u64 = 6;
 
 // P, the area of the largest tile.
-pub const MOST_AMOUNT: u64 = 4294836225;
+pub(crate) const MOST_AMOUNT: u64 = 4294836225;

@@ -7,12 +7,13 @@ use Rattle.fill.specs.declared.Verdict.{Verdict}
 use Rattle.fill.specs.Judge.{verdictOf}
 use Rattle.jobfile.specs.declared.Head.{Head}
 use Rattle.jobfile.specs.declared.Job.{Job}
+use Rattle.jobfile.specs.Limits.{unitLimits}
 use Rattle.jobfile.specs.Forms.{tileSide, tilesAcross}
 use Rattle.jobfile.specs.File.{Outcome, refused, accepted, outcomeOf}
 use Rattle.jobfile.specs.Held.{asJob}
 use Rattle.unit.specs.declared.run.Answer.{Answer}
 use Rattle.unit.specs.Answering.{answerOf}
-use Rattle.unit.specs.Room.{standingOf, jobStanding}
+use Rattle.unit.specs.Ready.{standingOf, jobStanding}
 use Rattle.unit.proofs.Accepting.{accepted-standing}
 use Rattle.phases.specs.Phase.{phaseNumber, phaseOf}
 
@@ -32,13 +33,13 @@ other-phase (suc (suc (suc (suc n)))) a p q r = refl
 pub told-phase : (k m : ℕ) (a : Answer) {x : ℕ} → k ≡ m → x ≡ phaseNumber m a → x ≡ phaseNumber k a
 told-phase k m a e p = rw e p
 
-module _ (file : List ℕ) (j : Job) (is : j ≡ asJob (outcomeOf file)) (k : ℕ) where
-  pub refused-phase : (j .fault ≡ 0 → ⊥) → 0 ≡ phaseOf k (outcomeOf file)
-  refused-phase bad = go (outcomeOf file) is
+module _ (file : List ℕ) (j : Job) (is : j ≡ asJob (outcomeOf unitLimits file)) (k : ℕ) where
+  pub refused-phase : (j .fault ≡ 0 → ⊥) → 0 ≡ phaseOf k (outcomeOf unitLimits file)
+  refused-phase bad = go (outcomeOf unitLimits file) is
     where
       go : (o : Outcome) → j ≡ asJob o → 0 ≡ phaseOf k o
       go (refused number line) e = refl
       go (accepted st) e = absurd (bad (ap (λ (i : Job). i .fault) e))
 
-  pub accepted-phase : (good : j .fault ≡ 0) {x : ℕ} → x ≡ phaseNumber k (answerOf (jobStanding j)) → x ≡ phaseOf k (outcomeOf file)
+  pub accepted-phase : (good : j .fault ≡ 0) {x : ℕ} → x ≡ phaseNumber k (answerOf (jobStanding j)) → x ≡ phaseOf k (outcomeOf unitLimits file)
   accepted-phase good e = let s = accepted-standing file j is good in e ∙ ap (phaseNumber k) (s .2) ∙ sym (ap (phaseOf k) (s .1))

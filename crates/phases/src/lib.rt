@@ -4,9 +4,10 @@ use fill::Verdict;
 use jobfile::Head;
 use jobfile::Job;
 ghost use mathlib.Core.Path.{_≡_};
+ghost use Rattle.jobfile.specs.Limits.{unitLimits};
 ghost use Rattle.jobfile.specs.File.{outcomeOf};
 ghost use Rattle.unit.specs.Answering.{answerOf};
-ghost use Rattle.unit.specs.Room.{Ready, Readable, standingOf, jobStanding};
+ghost use Rattle.unit.specs.Ready.{Ready, Readable, standingOf, jobStanding};
 ghost use Rattle.phases.specs.Phase.{verdictNumber, phaseNumber, phaseOf};
 
 // The exact run: the greatest area.
@@ -93,7 +94,7 @@ fn job_phase(phase: u64, job: Job) -> u64
 // and the quick run, 3 the verdict, any other none.
 #[no_mangle]
 pub extern "C" fn density_phase(file: &[u8], phase: u64) -> u64
-    ensures { λ r. ⌜ r ≡ phaseOf phase (outcomeOf (now (file .entry))) ⌝ }
+    ensures { λ r. ⌜ r ≡ phaseOf phase (outcomeOf unitLimits (now (file .entry))) ⌝ }
 {
     let job = jobfile::read(file);
     let fault = job.fault;

@@ -1,5 +1,5 @@
 -- Both ways that `readAs` is the inverse of `spell`: what is read is spelled so, and what is spelled so is read.
-use Prim.Native.Nat.{ℕ, suc, _+_, _^_, _≤_, _<_}
+use Prim.Native.Nat.{ℕ, suc, _+_, _≤_}
 use mathlib.Core.Path.{_≡_, refl, sym, ap, ap₂, _∙_}
 use mathlib.Core.Bool.{Bool, true, false, not, _&&_, _||_}
 use mathlib.Core.List.{List, [], _∷_, _++_, append-nil}
@@ -8,23 +8,18 @@ use native.Mathlib.Omega.{arith}
 use borrow.Author.Tests.{leb-true, eqb-true, eqb-false, not-true}
 use lib.Dec.{leb, eqb}
 use lib.ListN.{length}
-use Rattle.spelling.specs.Decimal.{decimal, isDigit, digitsOf, pastDigits, valueFrom, sameBytes, isNumeral}
+use Rattle.spelling.specs.Decimal.{decimal, EachShort, isDigit, digitsOf, pastDigits, valueFrom, sameBytes, isNumeral}
 use Rattle.spelling.specs.Pattern.{isPlace, spell, withNumber, readAs}
 use Rattle.spelling.specs.Scanning.{places}
-use Rattle.spelling.proofs.Numerals.{both, value-decimal, decimal-nonempty, all-decimal, at-most-digits, decimal-numeral, same-equal, digits-append, digits-then-past}
+use Rattle.spelling.proofs.Numerals.{both, value-decimal, all-decimal, decimal-numeral, same-equal, digits-append, digits-then-past}
 use Rattle.spelling.proofs.Patterns.{places-place, spell-place, read-number, read-no-number, places-byte, spell-byte, read-same, read-other, read-short}
-
--- each of some numbers is below a bound
-abbrev pub EachBelow : ℕ → List ℕ → Type 0
-EachBelow m [] = Unit {0}
-EachBelow m (n ∷ ns) = (n < m) × EachBelow m ns
 
 -- ---- what is read is spelled so
 
 pub record Spelled (most : ℕ) (p line ns : List ℕ) : Type 0 where
   pub spelling : line ≡ spell p ns
   pub count : length ns ≡ places p
-  pub small : EachBelow (10 ^ most) ns
+  pub short : EachShort most ns
 
 abbrev Right : (most : ℕ) (p line : List ℕ) → Option (List ℕ) → Type 0
 Right most p line none = Unit {0}
@@ -37,7 +32,7 @@ right-number most c p s e g (some ms) r =
     record {
       spelling = sym (digits-then-past s) ∙ ap₂ _++_ (sym digits) (r .spelling) ∙ sym (spell-place c p e v ms);
       count = ap suc (r .count) ∙ sym (places-place c p e);
-      small = (at-most-digits most v few-enough .0 (omega (arith, leb-true (length (digitsOf s)) most (k .0), ap length digits)), r .small);
+      short = (omega (arith, leb-true (length (digitsOf s)) most (k .0), ap length digits), r .short);
     }
   where
     v : ℕ
@@ -49,13 +44,10 @@ right-number most c p s e g (some ms) r =
     digits : decimal (valueFrom 0 (digitsOf s)) ≡ digitsOf s
     digits = same-equal (decimal (valueFrom 0 (digitsOf s))) (digitsOf s) (k .1)
 
-    few-enough : 1 ≤ most
-    few-enough = omega (arith, leb-true (length (digitsOf s)) most (k .0), ap length digits, decimal-nonempty (valueFrom 0 (digitsOf s)))
-
 right-byte : (most c : ℕ) (p s : List ℕ) → isPlace c ≡ false → (b : ℕ) → b ≡ c → (o : Option (List ℕ)) → Right most p s o → Right most (c ∷ p) (b ∷ s) o
 right-byte most c p s e b h none r = tt
 right-byte most c p s e b h (some ms) r =
-    record { spelling = ap₂ _∷_ h (r .spelling) ∙ sym (spell-byte c p e ms); count = r .count ∙ sym (places-byte c p e); small = r .small }
+    record { spelling = ap₂ _∷_ h (r .spelling) ∙ sym (spell-byte c p e ms); count = r .count ∙ sym (places-byte c p e); short = r .short }
 
 right-step : (most c : ℕ) (p : List ℕ) → ((t : List ℕ) → Right most p t (readAs most p t)) → (x : Bool) → isPlace c ≡ x → (s : List ℕ) →
     Right most (c ∷ p) s (readAs most (c ∷ p) s)
@@ -73,7 +65,7 @@ right-step most c p ih false e (b ∷ s) = go (eqb b c) refl
 
 right : (most : ℕ) (p s : List ℕ) → Right most p s (readAs most p s)
 unfolding readAs spell places
-right most [] [] = record { spelling = refl; count = refl; small = tt }
+right most [] [] = record { spelling = refl; count = refl; short = tt }
 right most [] (b ∷ s) = tt
 right most (c ∷ p) s = right-step most c p (λ t. right most p t) (isPlace c) refl s
 
@@ -116,22 +108,22 @@ read-decimal most c p e n t h d k =
     past = digits-append (decimal n) t (all-decimal n) .1 ∙ k
 
 -- one byte more in front of a pattern whose spellings are read
-spelled-step : (most c : ℕ) (p : List ℕ) → 1 ≤ most → ((ns : List ℕ) → length ns ≡ places p → EachBelow (10 ^ most) ns → readAs most p (spell p ns) ≡ some ns) →
-    (x : Bool) → isPlace c ≡ x → (not x || endsNumber p) ≡ true → (ns : List ℕ) → length ns ≡ places (c ∷ p) → EachBelow (10 ^ most) ns →
+spelled-step : (most c : ℕ) (p : List ℕ) → ((ns : List ℕ) → length ns ≡ places p → EachShort most ns → readAs most p (spell p ns) ≡ some ns) →
+    (x : Bool) → isPlace c ≡ x → (not x || endsNumber p) ≡ true → (ns : List ℕ) → length ns ≡ places (c ∷ p) → EachShort most ns →
     readAs most (c ∷ p) (spell (c ∷ p) ns) ≡ some ns
-spelled-step most c p m ih true e w [] l b = absurd (omega (arith, places-place c p e))
-spelled-step most c p m ih true e w (n ∷ ns) l b =
+spelled-step most c p ih true e w [] l b = absurd (omega (arith, places-place c p e))
+spelled-step most c p ih true e w (n ∷ ns) l b =
     rw (spell-place c p e n ns)
-    (read-decimal most c p e n (spell p ns) (at-most-digits most n m .1 (b .0)) (ends-digits p ns w .0) (ends-digits p ns w .1)
+    (read-decimal most c p e n (spell p ns) (b .0) (ends-digits p ns w .0) (ends-digits p ns w .1)
     ∙ rw (ih ns (omega (arith, places-place c p e)) (b .1)))
-spelled-step most c p m ih false e w ns l b =
+spelled-step most c p ih false e w ns l b =
     rw (spell-byte c p e ns) (read-same c p e most c (spell p ns) refl ∙ ih ns (l ∙ places-byte c p e) b)
 
-pub spelled-is-read : (most : ℕ) (p ns : List ℕ) → 1 ≤ most → wellFormed p ≡ true → length ns ≡ places p → EachBelow (10 ^ most) ns →
+pub spelled-is-read : (most : ℕ) (p ns : List ℕ) → wellFormed p ≡ true → length ns ≡ places p → EachShort most ns →
     readAs most p (spell p ns) ≡ some ns
 unfolding readAs spell wellFormed places
-spelled-is-read most [] [] m w l b = refl
-spelled-is-read most [] (n ∷ ns) m w l b = absurd (omega arith)
-spelled-is-read most (c ∷ p) ns m w l b =
+spelled-is-read most [] [] w l b = refl
+spelled-is-read most [] (n ∷ ns) w l b = absurd (omega arith)
+spelled-is-read most (c ∷ p) ns w l b =
     let k = both (not (isPlace c) || endsNumber p) (wellFormed p) w in
-    spelled-step most c p m (λ ms lm bm. spelled-is-read most p ms m (k .1) lm bm) (isPlace c) refl (k .0) ns l b
+    spelled-step most c p (λ ms lm bm. spelled-is-read most p ms (k .1) lm bm) (isPlace c) refl (k .0) ns l b

@@ -1,5 +1,5 @@
 -- Document 01, "The job file": decimal numbers, no sign, no leading zero, 0 itself allowed.
-use Prim.Native.Nat.{ℕ, zero, suc, _+_, _-_, _*_, _/_, _%_}
+use Prim.Native.Nat.{ℕ, zero, suc, _+_, _-_, _*_, _/_, _%_, _≤_}
 use mathlib.Core.Bool.{Bool, true, false, _&&_}
 use mathlib.Core.List.{List, [], _∷_, _++_}
 use lib.Dec.{leb, ltb, eqb}
@@ -13,6 +13,11 @@ decimalIn (suc k) n = elim (ltb n 10) [ true ↦ (48 + n) ∷ [] | false ↦ dec
 -- the decimal spelling of a number, as ASCII digits; a number n has at most n + 1 digits
 unfoldable pub decimal : ℕ → List ℕ
 decimal n = decimalIn n n
+
+-- each of some numbers is spelled by at most so many digits
+abbrev pub EachShort : (most : ℕ) → List ℕ → Type 0
+EachShort most [] = Unit {0}
+EachShort most (n ∷ ns) = (length (decimal n) ≤ most) × EachShort most ns
 
 -- an ASCII digit
 abbrev pub isDigit : ℕ → Bool

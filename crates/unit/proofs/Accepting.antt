@@ -7,17 +7,19 @@ use native.Mathlib.Omega.{arith}
 use lib.Dec.{lit≤}
 use lib.ListN.{length, take, drop, replicate, length-append, length-replicate}
 use Rattle.jobfile.specs.declared.Job.{Job}
-use Rattle.jobfile.specs.Forms.{tilesAcross, formOf}
-use Rattle.jobfile.specs.Faults.{Standing, lineFault}
+use Rattle.jobfile.specs.Limits.{unitLimits}
+use Rattle.jobfile.specs.Forms.{tilesAcross}
+use Rattle.jobfile.specs.Faults.{Standing}
 use Rattle.jobfile.specs.File.{Outcome, refused, accepted, outcomeOf}
-use Rattle.jobfile.specs.Held.{asJob, tableOf, padded}
+use Rattle.jobfile.specs.Acceptance.{FirstFault, faulty, unfed, unended, RefusedFile, long, lines}
+use Rattle.jobfile.specs.Held.{rectsRoom, amountsRoom, asJob, tableOf, padded}
 use Rattle.jobfile.proofs.Tables.{length-table, rects-of-table}
-use Rattle.jobfile.proofs.Files.{Comes, ends, faulty, unfed, unended, Faulty, long, lines, refused-as}
+use Rattle.jobfile.proofs.Files.{acceptance}
 use Rattle.jobfile.proofs.Accepted.{AcceptedFacts, accepted-facts, padded-front, table-front, amount-room}
 use Rattle.unit.specs.Answering.{answerOf, textOf}
-use Rattle.unit.specs.Whole.{replyTo, replyNumber}
-use Rattle.unit.specs.Promise.{Promises, Demand3, Demand3OfReply}
-use Rattle.unit.specs.Room.{WrittenIn, Ready, jobStanding, Readable, Rendering}
+use Rattle.unit.specs.Guarantee.{Promised}
+use Rattle.unit.specs.Ready.{Ready, jobStanding, Readable}
+use Rattle.unit.specs.Rendering.{answerRoom, WrittenIn, Rendering}
 use Rattle.unit.proofs.Demand.{Runs, promises-kept}
 use Rattle.unit.proofs.Running.{tiles-few}
 
@@ -37,9 +39,11 @@ facts-run st f =
       amounts-fit = f .fillable;
     }
 
--- demand 3, for every accepted file
-pub demand-3 : Demand3
-demand-3 file st e = promises-kept st (facts-run st (accepted-facts file st e))
+-- what is promised of every file
+pub promised : (file : List ℕ) → Promised file
+promised file =
+    let k = acceptance unitLimits file in
+    record { meaning = k; demand-3 = λ st a. promises-kept st (facts-run st (accepted-facts file st (k .accepted-if st a))) }
 
 facts-ready : (st : Standing) → AcceptedFacts st → Ready (st .head) (tableOf (st .shapes)) (st .amounts)
 facts-ready st f =
@@ -50,8 +54,6 @@ facts-ready st f =
       window-fits = h .window-most;
       small = omega (arith, h .size-most);
       accurate = h .accuracy-most;
-      some-cut = h .cut-least;
-      some-tile = h .side-least;
       planned = record {
         drawn = f .drawn;
         tiled = record { few = h .tiles-most; table = f .sized; room = amount-room st f; side = omega (arith, h .size-tiles, h .size-most) };
@@ -63,8 +65,8 @@ facts-ready st f =
     }
 
 -- the reader's tables without the zeros behind them
-amounts-front : (st : Standing) → AcceptedFacts st → take (tilesAcross (st .head) * tilesAcross (st .head)) (padded 4096 (st .amounts)) ≡ st .amounts
-amounts-front st f = ap (λ (n : ℕ). take n (padded 4096 (st .amounts))) (sym (f .sized)) ∙ padded-front 4096 (st .amounts)
+amounts-front : (st : Standing) → AcceptedFacts st → take (tilesAcross (st .head) * tilesAcross (st .head)) (padded amountsRoom (st .amounts)) ≡ st .amounts
+amounts-front st f = ap (λ (n : ℕ). take n (padded amountsRoom (st .amounts))) (sym (f .sized)) ∙ padded-front amountsRoom (st .amounts)
 
 padded-length : (n : ℕ) (s : List ℕ) → length s ≤ n → length (padded n s) ≡ n
 padded-length n s h = length-append s (replicate (n - length s) 0) ∙ ap (λ (k : ℕ). length s + k) (length-replicate (n - length s) 0) ∙ whole
@@ -76,8 +78,8 @@ facts-readable : (st : Standing) → AcceptedFacts st → Readable (asJob (accep
 facts-readable st f =
     record {
       shapes = f .few;
-      room = padded-length 1024 (tableOf (st .shapes)) (omega (arith, length-table (st .shapes), f .few));
-      cells = padded-length 4096 (st .amounts) (omega (arith, f .sized, tiles-few (tilesAcross (st .head)) (f .head .tiles-most)));
+      room = padded-length rectsRoom (tableOf (st .shapes)) (omega (arith, length-table (st .shapes), f .few));
+      cells = padded-length amountsRoom (st .amounts) (omega (arith, f .sized, tiles-few (tilesAcross (st .head)) (f .head .tiles-most)));
       tiles = f .head .tiles-most;
       ready = rw (table-front (st .shapes), amounts-front st f) (facts-ready st f);
     }
@@ -88,31 +90,32 @@ facts-standing st f = rw (table-front (st .shapes), amounts-front st f, rects-of
 
 -- ---- a refused file
 
-comes-positive : {st : Standing} {k : ℕ} {s : List ℕ} {o : Outcome} → Comes st k s o → (number line : ℕ) → o ≡ refused number line → number ≡ 0 → ⊥
-comes-positive (ends fs t g d) number line e z = let y : _≡_ {A = ℕ} 0 1 = cc in omega arith
-comes-positive (faulty fs {st′ = x} l after t n g bad) number line e z = bad (let y : lineFault x (formOf l) ≡ number = cc in y ∙ z)
-comes-positive (unfed fs l t n p g) number line e z = let y : _≡_ {A = ℕ} 2 0 = cc in omega arith
-comes-positive (unended fs t g n) number line e z = let y : _≡_ {A = ℕ} 12 0 = cc in omega arith
+first-positive : {st : Standing} {k : ℕ} {s : List ℕ} {number line : ℕ} → FirstFault unitLimits st k s number line → number ≡ 0 → ⊥
+first-positive (faulty fs l after t n g fault bad) z = bad z
+first-positive (unfed fs l t n p g) z = omega (arith, z)
+first-positive (unended fs t g n) z = omega (arith, z)
 
-faulty-positive : (file : List ℕ) {o : Outcome} → Faulty file o → (number line : ℕ) → o ≡ refused number line → number ≡ 0 → ⊥
-faulty-positive file (long h) number line e z = let y : _≡_ {A = ℕ} 1 0 = cc in omega arith
-faulty-positive file (lines h c) number line e z = comes-positive c number line e z
+refused-positive : (file : List ℕ) (number line : ℕ) → RefusedFile unitLimits file number line → number ≡ 0 → ⊥
+refused-positive file number line (long h) z = omega (arith, z)
+refused-positive file number line (lines h c) z = first-positive c z
 
-pub refused-positive : (file : List ℕ) (number line : ℕ) → outcomeOf file ≡ refused number line → number ≡ 0 → ⊥
-refused-positive file number line e z = faulty-positive file (refused-as file number line e) number line refl z
-
-pub demand-3-of-reply : Demand3OfReply
-demand-3-of-reply file room good = go (outcomeOf file) refl
+-- so a file is accepted where the number that is carried of its outcome, which is the fault's of a refused one, is 0
+pub found-accepted : (file : List ℕ) (numberOf : Outcome → ℕ) → ((number line : ℕ) → numberOf (refused number line) ≡ number) →
+    numberOf (outcomeOf unitLimits file) ≡ 0 → (st : Standing) × (outcomeOf unitLimits file ≡ accepted st)
+found-accepted file numberOf fault good = go (outcomeOf unitLimits file) refl
   where
-    go : (o : Outcome) → outcomeOf file ≡ o → (st : Standing) × (outcomeOf file ≡ accepted st) × Promises st (answerOf st)
-    go (accepted st) e = (st, e, demand-3 file st e)
-    go (refused number line) e = absurd (refused-positive file number line e (sym (ap (λ (o : Outcome). replyNumber (replyTo o room)) e) ∙ good))
+    go : (o : Outcome) → outcomeOf unitLimits file ≡ o → (st : Standing) × (outcomeOf unitLimits file ≡ accepted st)
+    go (accepted st) e = (st, e)
+    go (refused number line) e =
+        absurd
+        (refused-positive file number line (acceptance unitLimits file .refused-only-if number line e)
+        (sym (fault number line) ∙ sym (ap numberOf e) ∙ good))
 
 -- ---- what rendering leaves
 
-module _ (file : List ℕ) (j : Job) (is : j ≡ asJob (outcomeOf file)) where
-  pub refused-rendering : (j .fault ≡ 0 → ⊥) → (l : List ℕ) → Rendering (outcomeOf file) l l (record { fault = j .fault; line = j .line; length = 0 })
-  refused-rendering bad l = go (outcomeOf file) is
+module _ (file : List ℕ) (j : Job) (is : j ≡ asJob (outcomeOf unitLimits file)) where
+  pub refused-rendering : (j .fault ≡ 0 → ⊥) → (l : List ℕ) → Rendering (outcomeOf unitLimits file) l l (record { fault = j .fault; line = j .line; length = 0 })
+  refused-rendering bad l = go (outcomeOf unitLimits file) is
     where
       go : (o : Outcome) → j ≡ asJob o → Rendering o l l (record { fault = j .fault; line = j .line; length = 0 })
       go (accepted st) e = absurd (bad (ap (λ (k : Job). k .fault) e))
@@ -123,13 +126,8 @@ module _ (file : List ℕ) (j : Job) (is : j ≡ asJob (outcomeOf file)) where
             short = lit≤ tt;
           }
 
-  pub fault-free : j .fault ≡ 0 → (st : Standing) × (outcomeOf file ≡ accepted st)
-  fault-free good = go (outcomeOf file) refl
-    where
-      go : (o : Outcome) → outcomeOf file ≡ o → (st : Standing) × (outcomeOf file ≡ accepted st)
-      go (accepted st) e = (st, e)
-      go (refused number line) e =
-          absurd (refused-positive file number line e (sym (ap (λ (k : Job). k .fault) (is ∙ ap asJob e)) ∙ good))
+  fault-free : j .fault ≡ 0 → (st : Standing) × (outcomeOf unitLimits file ≡ accepted st)
+  fault-free good = found-accepted file (λ o. asJob o .fault) (λ number line. refl) (sym (ap (λ (k : Job). k .fault) is) ∙ good)
 
   module _ (good : j .fault ≡ 0) where
     st : Standing
@@ -144,15 +142,15 @@ module _ (file : List ℕ) (j : Job) (is : j ≡ asJob (outcomeOf file)) where
     job-is = is ∙ ap asJob (fault-free good .1)
 
     -- what stands at the end of the file is what the job's tables give
-    pub accepted-standing : (end : Standing) × (outcomeOf file ≡ accepted end) × (answerOf (jobStanding j) ≡ answerOf end)
+    pub accepted-standing : (end : Standing) × (outcomeOf unitLimits file ≡ accepted end) × (answerOf (jobStanding j) ≡ answerOf end)
     unfolding st
     accepted-standing = (st, fault-free good .1, ap (λ (k : Job). answerOf (jobStanding k)) job-is ∙ facts-standing st facts)
 
     pub accepted-readable : Readable j
     accepted-readable = subst⁻¹ Readable job-is (facts-readable st facts)
 
-    pub accepted-rendering : (l m : List ℕ) (r : ℕ) → WrittenIn 464 l 0 (textOf (answerOf (jobStanding j))) m r →
-        Rendering (outcomeOf file) l m (record { fault = 0; line = 0; length = r })
+    pub accepted-rendering : (l m : List ℕ) (r : ℕ) → WrittenIn answerRoom l 0 (textOf (answerOf (jobStanding j))) m r →
+        Rendering (outcomeOf unitLimits file) l m (record { fault = 0; line = 0; length = r })
     unfolding st accepted-standing
     accepted-rendering l m r w = subst⁻¹ (λ (o : Outcome). Rendering o l m (record { fault = 0; line = 0; length = r })) (fault-free good .1) rendered
       where

@@ -7,16 +7,15 @@ use native.Mathlib.Omega.{arith}
 use lib.ListN.{length, getD, length-append}
 use mir.Val.{Fits}
 use mir.Syntax.{w64}
-use Rattle.spelling.specs.Decimal.{decimal}
+use Rattle.spelling.specs.Decimal.{decimal, EachShort}
 use Rattle.spelling.specs.Pattern.{isPlace, spell}
 use Rattle.spelling.proofs.Numerals.{at-most-digits}
 use Rattle.spelling.proofs.Patterns.{spell-place, spell-byte}
-use Rattle.spelling.proofs.Inverse.{EachBelow}
 
 number-length : (n : ℕ) → n < 2 ^ 64 → length (decimal n) ≤ 20
 number-length n h = at-most-digits 20 n (omega arith) .1 (omega arith)
 
-pub spell-length : (p ns : List ℕ) → EachBelow (2 ^ 64) ns → length (spell p ns) ≤ length p + 20 * length ns
+spell-length : (p ns : List ℕ) → EachShort 20 ns → length (spell p ns) ≤ length p + 20 * length ns
 unfolding spell
 spell-length [] ns h = omega arith
 spell-length (c ∷ p) [] h = omega (arith, spell-length p [] tt)
@@ -24,16 +23,16 @@ spell-length (c ∷ p) (n ∷ ns) h = go (isPlace c) refl (spell-length p ns (h 
   where
     go : (x : Bool) → isPlace c ≡ x → length (spell p ns) ≤ length p + 20 * length ns → length (spell p (n ∷ ns)) ≤ length p + 20 * suc (length ns) →
         length (spell (c ∷ p) (n ∷ ns)) ≤ suc (length p) + 20 * suc (length ns)
-    go true e fewer same = rw (spell-place c p e) (rw (length-append (decimal n) (spell p ns)) (omega (arith, number-length n (h .0))))
+    go true e fewer same = rw (spell-place c p e) (rw (length-append (decimal n) (spell p ns)) (omega (arith, h .0)))
     go false e fewer same = rw (spell-byte c p e) (omega arith)
 
 -- numbers of a slice fit 64 bits
-each-below : (m : ℕ) (ns : List ℕ) → ((i : ℕ) → getD ns i 0 < m) → EachBelow m ns
-each-below m [] h = tt
-each-below m (n ∷ ns) h = (h 0, each-below m ns (λ i. h (suc i)))
+each-short : (ns : List ℕ) → ((i : ℕ) → getD ns i 0 < 2 ^ 64) → EachShort 20 ns
+each-short [] h = tt
+each-short (n ∷ ns) h = (number-length n (h 0), each-short ns (λ i. h (suc i)))
 
 pub spell-fits : (p ns : List ℕ) → ((i : ℕ) → Fits w64 (getD ns i 0)) → length (spell p ns) ≤ length p + 20 * length ns
-spell-fits p ns h = spell-length p ns (each-below (2 ^ 64) ns (λ i. h i .fits))
+spell-fits p ns h = spell-length p ns (each-short ns (λ i. h i .fits))
 
 -- a pattern with no numbers is written as it stands
 pub spell-bare : (p : List ℕ) → spell p [] ≡ p

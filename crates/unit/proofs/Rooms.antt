@@ -7,7 +7,7 @@ use lib.ListN.{length, length-append}
 use Rattle.buffers.specs.Written.{Written}
 use Rattle.spelling.specs.Pattern.{spell}
 use Rattle.buffers.proofs.Writing.{written-chain}
-use Rattle.unit.specs.Room.{WrittenIn}
+use Rattle.unit.specs.Rendering.{WrittenIn}
 use Rattle.unit.proofs.Length.{spell-bare}
 
 -- a writer that needs less room

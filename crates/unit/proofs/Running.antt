@@ -19,7 +19,7 @@ use Rattle.jobfile.specs.declared.Head.{Head}
 use Rattle.jobfile.specs.Forms.{tileSide, tilesAcross}
 use Rattle.unit.specs.declared.run.Answer.{Answer}
 use Rattle.unit.specs.Answering.{answerOf}
-use Rattle.unit.specs.Room.{Ready, standingOf}
+use Rattle.unit.specs.Ready.{Ready, standingOf}
 
 module _ (h : Head) (rects amounts : List ℕ) where
   abbrev quick : Quick

@@ -1,5 +1,7 @@
 pub mod Answering
 pub mod Whole
 pub mod Promise
-pub mod Room
+pub mod Guarantee
+pub mod Ready
+pub mod Rendering
 pub mod Cases

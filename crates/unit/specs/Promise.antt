@@ -1,5 +1,5 @@
 -- Demand 3: what the answer to an accepted job promises, whatever its shapes and numbers. An answer that is an enum is spoken of by the
--- paper's number and values. `demand-3` and `demand-3-of-reply` in proofs/Accepting.antt prove it for every accepted file.
+-- paper's number and values. `Guarantee` in specs/Guarantee.antt makes it part of the unit's contracts.
 use Prim.Native.Nat.{ℕ, _+_, _-_, _*_, _≤_, _<_}
 use mathlib.Core.Path.{_≡_}
 use mathlib.Core.Bool.{Bool}
@@ -17,10 +17,7 @@ use Rattle.fill.specs.Judge.{boundNumber, verdictNumbers}
 use Rattle.fill.specs.Placement.{Placement, placedSum, keeps}
 use Rattle.jobfile.specs.Forms.{tileSide, tilesAcross}
 use Rattle.jobfile.specs.Faults.{Standing}
-use Rattle.jobfile.specs.File.{accepted, outcomeOf}
 use Rattle.unit.specs.declared.run.Answer.{Answer}
-use Rattle.unit.specs.Answering.{answerOf}
-use Rattle.unit.specs.Whole.{replyFor, replyNumber}
 
 -- (x, y) is a whole-number window position
 pub record Position (st : Standing) (x y : ℕ) : Type 0 where
@@ -85,12 +82,3 @@ pub record Promises (st : Standing) (a : Answer) : Type 0 where
   pub exact : ExactPromise st (a .exact)
   pub quick : QuickPromise st (a .quick) (a .exact .greatest .area)
   pub fill : FillPromise st (a .verdict)
-
--- the demand, for every file that is accepted, whatever buffer is lent
-abbrev pub Demand3 : Type 0
-Demand3 = (file : List ℕ) (st : Standing) → outcomeOf file ≡ accepted st → Promises st (answerOf st)
-
--- and for every file to which the reply has the number 0
-abbrev pub Demand3OfReply : Type 0
-Demand3OfReply = (file : List ℕ) (room : ℕ) → replyNumber (replyFor file room) ≡ 0 →
-    (st : Standing) × (outcomeOf file ≡ accepted st) × Promises st (answerOf st)

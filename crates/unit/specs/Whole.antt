@@ -7,6 +7,7 @@ use lib.ListN.{length}
 use Rattle.buffers.specs.Written.{atFront}
 use Rattle.spelling.specs.Text.{bytes}
 use Rattle.spelling.specs.Pattern.{spell}
+use Rattle.jobfile.specs.Limits.{unitLimits}
 use Rattle.jobfile.specs.File.{Outcome, refused, accepted, outcomeOf}
 use Rattle.unit.specs.declared.Reply.{Reply}
 use Rattle.unit.specs.declared.Reply.the-variants.{Accepted, Refused}
@@ -26,10 +27,10 @@ bufferAfter (accepted st) buffer =
 
 -- from a file's bytes and the buffer's length to the reply, and from the file and the buffer to the buffer afterwards
 abbrev pub replyFor : (file : List ℕ) (room : ℕ) → Reply
-replyFor file room = replyTo (outcomeOf file) room
+replyFor file room = replyTo (outcomeOf unitLimits file) room
 
 abbrev pub bufferFor : (file buffer : List ℕ) → List ℕ
-bufferFor file buffer = bufferAfter (outcomeOf file) buffer
+bufferFor file buffer = bufferAfter (outcomeOf unitLimits file) buffer
 
 -- the paper's number and values of a reply: an accepted one has the number 0 and the answer's length, a refused one the fault's number and line
 abbrev pub replyNumber : Reply → ℕ
@@ -50,4 +51,4 @@ printedOf (refused number line) = spell (bytes "(refused # #)\n") (number ∷ li
 printedOf (accepted st) = textOf (answerOf st)
 
 abbrev pub printedFor : (file : List ℕ) → List ℕ
-printedFor file = printedOf (outcomeOf file)
+printedFor file = printedOf (outcomeOf unitLimits file)

@@ -6,11 +6,15 @@ mod text;
 use render::render;
 use text::write_line;
 use text::write_word;
-ghost use Prim.Native.Nat.{_≤_};
+ghost use Prim.Native.Nat.{_^_, _<_};
 ghost use mathlib.Core.Path.{_≡_};
 ghost use lib.ListN.{length};
-ghost use Rattle.buffers.specs.Written.{Front};
-ghost use Rattle.unit.specs.Whole.{replyFor, bufferFor, printedFor, replyNumber, replyValue, codeOf};
+ghost use Rattle.unit.specs.Whole.{replyFor, codeOf};
+ghost use Rattle.unit.specs.Guarantee.{Guarantee, Reported};
+
+// The room that every answer fits, with 20 digits to each number: the four
+// lines take at most 160, 192, 40 and 72 bytes.
+pub const ANSWER_ROOM: usize = 160 + 192 + 40 + 72;
 
 // What the unit replies: the answer's length, or the number and line of the
 // fault that the job was refused for.
@@ -23,10 +27,9 @@ pub enum Reply {
 // the front of the buffer, and nothing behind it changes; a refused file, a
 // buffer that is too short included, leaves every byte as it was.
 pub fn answer(file: &[u8], out: &mut [u8]) -> Reply
-    ensures reply { λ r. ⌜ r ≡ replyFor (now (file .entry)) (length (now (out .entry))) ⌝ }
-    ensures buffer { λ r. ⌜ now (out .exit) ≡ bufferFor (now (file .entry)) (now (out .entry)) ⌝ }
+    ensures { λ r. ⌜ Guarantee (now (file .entry)) (now (out .entry)) r (now (out .exit)) ⌝ }
 {
-    let mut text = [0u8; 464];
+    let mut text = [0u8; ANSWER_ROOM];
     let done = render(file, &mut text);
     let fault = done.fault;
     if fault != 0 {
@@ -41,9 +44,9 @@ pub fn answer(file: &[u8], out: &mut [u8]) -> Reply
 }
 
 // What the program prints for a file, at the front of a buffer that always
-// holds it: with 20 digits to each number no answer is longer than 464 bytes.
-pub fn report(file: &[u8], out: &mut [u8; 464]) -> usize
-    ensures { λ r. ⌜ Front (now (out .entry)) (printedFor (now (file .entry))) (now (out .exit)) r ⌝ }
+// holds it.
+pub fn report(file: &[u8], out: &mut [u8; ANSWER_ROOM]) -> usize
+    ensures { λ r. ⌜ Reported (now (file .entry)) (now (out .entry)) r (now (out .exit)) ⌝ }
 {
     let done = render(file, out);
     let fault = done.fault;
@@ -55,9 +58,9 @@ pub fn report(file: &[u8], out: &mut [u8; 464]) -> usize
 }
 
 // A reply as one number: its length, or 100000 times the fault's number and its
-// line. A length is below 2^63 and a line at most 60,001: the bound is their sum.
+// line.
 fn code(r: Reply) -> u64
-    requires { ⌜ (replyNumber r ≤ 13) × (replyValue r ≤ 9223372036854835809) ⌝ }
+    requires { ⌜ codeOf r < 2 ^ 64 ⌝ }
     ensures { λ n. ⌜ n ≡ codeOf r ⌝ }
 {
     match r {
@@ -69,8 +72,8 @@ fn code(r: Reply) -> u64
 // The unit for other languages: `answer`, with its reply as one number.
 #[no_mangle]
 pub extern "C" fn density_answer(file: &[u8], out: &mut [u8]) -> u64
-    ensures reply { λ r. ⌜ r ≡ codeOf (replyFor (now (file .entry)) (length (now (out .entry)))) ⌝ }
-    ensures buffer { λ r. ⌜ now (out .exit) ≡ bufferFor (now (file .entry)) (now (out .entry)) ⌝ }
+    ensures code { λ r. ⌜ r ≡ codeOf (replyFor (now (file .entry)) (length (now (out .entry)))) ⌝ }
+    ensures guarantee { λ r. ⌜ Guarantee (now (file .entry)) (now (out .entry)) (replyFor (now (file .entry)) (length (now (out .entry)))) (now (out .exit)) ⌝ }
 {
     code(answer(file, out))
 }

@@ -4,9 +4,11 @@ use crate::text::write_answer;
 use jobfile::Job;
 ghost use Prim.Native.Nat.{_*_, _≤_};
 ghost use lib.ListN.{length};
+ghost use Rattle.jobfile.specs.Limits.{unitLimits};
 ghost use Rattle.jobfile.specs.File.{outcomeOf};
 ghost use Rattle.unit.specs.Answering.{answerOf, textOf};
-ghost use Rattle.unit.specs.Room.{WrittenIn, jobStanding, Readable, Rendering};
+ghost use Rattle.unit.specs.Ready.{jobStanding, Readable};
+ghost use Rattle.unit.specs.Rendering.{answerRoom, WrittenIn, Rendering};
 
 // What rendering a file gives: number and line of its fault, or the length of
 // its answer.
@@ -19,8 +21,8 @@ pub struct Rendered {
 // Writes the answer to a job at the front of a buffer.
 fn render_job(job: Job, text: &mut [u8]) -> usize
     requires { ⌜ Readable job ⌝ }
-    requires { ⌜ 464 ≤ length (now text) ⌝ }
-    ensures { λ r. ⌜ WrittenIn 464 (now (text .entry)) 0 (textOf (answerOf (jobStanding job))) (now (text .exit)) r ⌝ }
+    requires { ⌜ answerRoom ≤ length (now text) ⌝ }
+    ensures { λ r. ⌜ WrittenIn answerRoom (now (text .entry)) 0 (textOf (answerOf (jobStanding job))) (now (text .exit)) r ⌝ }
 {
     let head = job.head;
     let rects = job.rects;
@@ -33,9 +35,9 @@ fn render_job(job: Job, text: &mut [u8]) -> usize
 
 // Reads a file and, where it is accepted, writes its answer at the front of a
 // buffer.
-pub fn render(file: &[u8], text: &mut [u8]) -> Rendered
-    requires { ⌜ 464 ≤ length (now text) ⌝ }
-    ensures { λ r. ⌜ Rendering (outcomeOf (now (file .entry))) (now (text .entry)) (now (text .exit)) r ⌝ }
+pub(crate) fn render(file: &[u8], text: &mut [u8]) -> Rendered
+    requires { ⌜ answerRoom ≤ length (now text) ⌝ }
+    ensures { λ r. ⌜ Rendering (outcomeOf unitLimits (now (file .entry))) (now (text .entry)) (now (text .exit)) r ⌝ }
 {
     let job = jobfile::read(file);
     let fault = job.fault;

@@ -5,7 +5,7 @@ use jobfile::Head;
 use zoom::Quick;
 ghost use mathlib.Core.Path.{_≡_};
 ghost use Rattle.unit.specs.Answering.{answerOf};
-ghost use Rattle.unit.specs.Room.{Ready, standingOf};
+ghost use Rattle.unit.specs.Ready.{Ready, standingOf};
 
 // What an accepted job is answered, before it is written as text.
 pub struct Answer {
@@ -17,7 +17,7 @@ pub struct Answer {
 
 // The answer to a job. The exact run's window is handed to the quick run, so
 // that nothing is searched twice.
-pub fn run(head: Head, rects: &[u64], amounts: &[u64]) -> Answer
+pub(crate) fn run(head: Head, rects: &[u64], amounts: &[u64]) -> Answer
     requires { ⌜ Ready head (now rects) (now amounts) ⌝ }
     ensures { λ r. ⌜ r ≡ answerOf (standingOf head (now (rects .entry)) (now (amounts .entry))) ⌝ }
 {

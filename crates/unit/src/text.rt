@@ -11,11 +11,11 @@ ghost use mathlib.Core.List.{_++_};
 ghost use lib.ListN.{length};
 ghost use Rattle.spelling.specs.Pattern.{spell};
 ghost use Rattle.unit.specs.Answering.{exactLine, zoomHead, levelPart, zoomLine, densityLine, boundWord, failingStart, verdictLine, textOf};
-ghost use Rattle.unit.specs.Room.{WrittenIn};
+ghost use Rattle.unit.specs.Rendering.{exactRoom, endRoom, levelRoom, densityRoom, boundRoom, startRoom, verdictRoom, answerRoom, WrittenIn};
 
 // Writes a pattern's text where there is room for 20 digits to a number, the
 // most that 64 bits take.
-pub fn write_line(pattern: &[u8], values: &[u64], out: &mut [u8], at: usize) -> usize
+pub(crate) fn write_line(pattern: &[u8], values: &[u64], out: &mut [u8], at: usize) -> usize
     requires { ⌜ at + (length (now pattern) + 20 * length (now values)) ≤ length (now out) ⌝ }
     ensures { λ r. ⌜ WrittenIn (length (now (pattern .entry)) + 20 * length (now (values .entry))) (now (out .entry)) at (spell (now (pattern .entry)) (now (values .entry))) (now (out .exit)) r ⌝ }
 {
@@ -23,8 +23,8 @@ pub fn write_line(pattern: &[u8], values: &[u64], out: &mut [u8], at: usize) -> 
 }
 
 fn write_exact(e: Extremes, out: &mut [u8], at: usize) -> usize
-    requires { ⌜ at + 160 ≤ length (now out) ⌝ }
-    ensures { λ r. ⌜ WrittenIn 160 (now (out .entry)) at (exactLine e) (now (out .exit)) r ⌝ }
+    requires { ⌜ at + exactRoom ≤ length (now out) ⌝ }
+    ensures { λ r. ⌜ WrittenIn exactRoom (now (out .entry)) at (exactLine e) (now (out .exit)) r ⌝ }
 {
     let values = [
         e.greatest.area,
@@ -38,7 +38,7 @@ fn write_exact(e: Extremes, out: &mut [u8], at: usize) -> usize
 }
 
 // Writes bytes as they stand.
-pub fn write_word(word: &[u8], out: &mut [u8], at: usize) -> usize
+pub(crate) fn write_word(word: &[u8], out: &mut [u8], at: usize) -> usize
     requires { ⌜ at + length (now word) ≤ length (now out) ⌝ }
     ensures { λ r. ⌜ WrittenIn (length (now (word .entry))) (now (out .entry)) at (now (word .entry)) (now (out .exit)) r ⌝ }
 {
@@ -47,8 +47,8 @@ pub fn write_word(word: &[u8], out: &mut [u8], at: usize) -> usize
 }
 
 fn write_end(end: End, out: &mut [u8], at: usize) -> usize
-    requires { ⌜ at + 16 ≤ length (now out) ⌝ }
-    ensures { λ r. ⌜ WrittenIn 16 (now (out .entry)) at (zoomHead end) (now (out .exit)) r ⌝ }
+    requires { ⌜ at + endRoom ≤ length (now out) ⌝ }
+    ensures { λ r. ⌜ WrittenIn endRoom (now (out .entry)) at (zoomHead end) (now (out .exit)) r ⌝ }
 {
     match end {
         End::Met => write_word(b"(zoom met", out, at),
@@ -58,8 +58,8 @@ fn write_end(end: End, out: &mut [u8], at: usize) -> usize
 }
 
 fn write_level(levels: u64, last: Level, out: &mut [u8], at: usize) -> usize
-    requires { ⌜ at + 176 ≤ length (now out) ⌝ }
-    ensures { λ r. ⌜ WrittenIn 176 (now (out .entry)) at (levelPart levels last) (now (out .exit)) r ⌝ }
+    requires { ⌜ at + levelRoom ≤ length (now out) ⌝ }
+    ensures { λ r. ⌜ WrittenIn levelRoom (now (out .entry)) at (levelPart levels last) (now (out .exit)) r ⌝ }
 {
     let values = [
         levels,
@@ -78,8 +78,8 @@ fn write_level(levels: u64, last: Level, out: &mut [u8], at: usize) -> usize
 }
 
 fn write_quick(q: Quick, out: &mut [u8], at: usize) -> usize
-    requires { ⌜ at + 192 ≤ length (now out) ⌝ }
-    ensures { λ r. ⌜ WrittenIn 192 (now (out .entry)) at (zoomLine q) (now (out .exit)) r ⌝ }
+    requires { ⌜ at + (endRoom + levelRoom) ≤ length (now out) ⌝ }
+    ensures { λ r. ⌜ WrittenIn (endRoom + levelRoom) (now (out .entry)) at (zoomLine q) (now (out .exit)) r ⌝ }
 {
     let end = q.end;
     let last = q.last;
@@ -88,16 +88,16 @@ fn write_quick(q: Quick, out: &mut [u8], at: usize) -> usize
 }
 
 fn write_density(density: u64, out: &mut [u8], at: usize) -> usize
-    requires { ⌜ at + 40 ≤ length (now out) ⌝ }
-    ensures { λ r. ⌜ WrittenIn 40 (now (out .entry)) at (densityLine density) (now (out .exit)) r ⌝ }
+    requires { ⌜ at + densityRoom ≤ length (now out) ⌝ }
+    ensures { λ r. ⌜ WrittenIn densityRoom (now (out .entry)) at (densityLine density) (now (out .exit)) r ⌝ }
 {
     let values = [density];
     write_line(b"(density #)\n", &values, out, at)
 }
 
 fn write_bound(b: Bound, out: &mut [u8], at: usize) -> usize
-    requires { ⌜ at + 8 ≤ length (now out) ⌝ }
-    ensures { λ r. ⌜ WrittenIn 8 (now (out .entry)) at (boundWord b) (now (out .exit)) r ⌝ }
+    requires { ⌜ at + boundRoom ≤ length (now out) ⌝ }
+    ensures { λ r. ⌜ WrittenIn boundRoom (now (out .entry)) at (boundWord b) (now (out .exit)) r ⌝ }
 {
     match b {
         Bound::Over => write_word(b" over", out, at),
@@ -106,8 +106,8 @@ fn write_bound(b: Bound, out: &mut [u8], at: usize) -> usize
 }
 
 fn write_start(b: Bound, column: u64, row: u64, out: &mut [u8], at: usize) -> usize
-    requires { ⌜ at + 56 ≤ length (now out) ⌝ }
-    ensures { λ r. ⌜ WrittenIn 56 (now (out .entry)) at (failingStart b column row) (now (out .exit)) r ⌝ }
+    requires { ⌜ at + startRoom ≤ length (now out) ⌝ }
+    ensures { λ r. ⌜ WrittenIn startRoom (now (out .entry)) at (failingStart b column row) (now (out .exit)) r ⌝ }
 {
     let next = write_bound(b, out, at);
     let values = [column, row];
@@ -116,16 +116,16 @@ fn write_start(b: Bound, column: u64, row: u64, out: &mut [u8], at: usize) -> us
 
 // Writes a verdict's word and the failing start that it names.
 fn write_failing(word: &[u8], b: Bound, column: u64, row: u64, out: &mut [u8], at: usize) -> usize
-    requires { ⌜ at + (length (now word) + 56) ≤ length (now out) ⌝ }
-    ensures { λ r. ⌜ WrittenIn (length (now (word .entry)) + 56) (now (out .entry)) at (now (word .entry) ++ failingStart b column row) (now (out .exit)) r ⌝ }
+    requires { ⌜ at + (length (now word) + startRoom) ≤ length (now out) ⌝ }
+    ensures { λ r. ⌜ WrittenIn (length (now (word .entry)) + startRoom) (now (out .entry)) at (now (word .entry) ++ failingStart b column row) (now (out .exit)) r ⌝ }
 {
     let next = write_word(word, out, at);
     write_start(b, column, row, out, next)
 }
 
 fn write_verdict(v: Verdict, out: &mut [u8], at: usize) -> usize
-    requires { ⌜ at + 72 ≤ length (now out) ⌝ }
-    ensures { λ r. ⌜ WrittenIn 72 (now (out .entry)) at (verdictLine v) (now (out .exit)) r ⌝ }
+    requires { ⌜ at + verdictRoom ≤ length (now out) ⌝ }
+    ensures { λ r. ⌜ WrittenIn verdictRoom (now (out .entry)) at (verdictLine v) (now (out .exit)) r ⌝ }
 {
     match v {
         Verdict::Safe => write_word(b"(fill safe)\n", out, at),
@@ -142,9 +142,9 @@ fn write_verdict(v: Verdict, out: &mut [u8], at: usize) -> usize
 }
 
 // Writes the four lines.
-pub fn write_answer(a: Answer, out: &mut [u8]) -> usize
-    requires { ⌜ 464 ≤ length (now out) ⌝ }
-    ensures { λ r. ⌜ WrittenIn 464 (now (out .entry)) 0 (textOf a) (now (out .exit)) r ⌝ }
+pub(crate) fn write_answer(a: Answer, out: &mut [u8]) -> usize
+    requires { ⌜ answerRoom ≤ length (now out) ⌝ }
+    ensures { λ r. ⌜ WrittenIn answerRoom (now (out .entry)) 0 (textOf a) (now (out .exit)) r ⌝ }
 {
     let exact = a.exact;
     let quick = a.quick;

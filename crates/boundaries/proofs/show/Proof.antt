@@ -7,10 +7,10 @@ use Rattle.boundaries.proofs.show.Statement.{statement}
 use Rattle.boundaries.proofs.show.Tie as tie
 
 array-share-prefix-text : tie.Need-array-share-prefix-text
-array-share-prefix-text c = front-fits _ _ _ _ (c .report .ensures)
+array-share-prefix-text c = front-fits _ _ _ _ (c .report .ensures .printed)
 
 slice-aggregate-write-all : tie.Need-slice-aggregate-write-all
-slice-aggregate-write-all c = let r = c .before .report in sym (length-take-le (r .result) (r .last .1 .0) (front-fits _ _ _ _ (r .ensures)))
+slice-aggregate-write-all c = let r = c .before .report in sym (length-take-le (r .result) (r .last .1 .0) (front-fits _ _ _ _ (r .ensures .printed)))
 
 pub show-spec : {M : Type 1} → statement M
 show-spec =

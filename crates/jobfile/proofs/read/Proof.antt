@@ -1,6 +1,7 @@
 -- `jobfile::read` meets its contract. Each return cites what the lines came to. Assumes nothing.
 use mathlib.Core.Path.{ap, _∙_}
 use borrow.Author.Needs.{needs}
+use Rattle.jobfile.specs.Limits.{unitLimits}
 use Rattle.jobfile.specs.Held.{asJob}
 use Rattle.jobfile.proofs.Lines.{too-long, whole-bad, whole-good}
 use Rattle.jobfile.proofs.read.Statement.{statement}
@@ -9,7 +10,7 @@ use Rattle.jobfile.proofs.read.Tie as tie
 pub read-spec : {M : Type 1} → statement M
 read-spec =
     tie.close
-    (tie.spec (λ c κs. search needs) (λ c. c .refusal .ensures ∙ ap asJob (too-long _ (c .before .if1 .taken))) (λ c. search needs)
+    (tie.spec (λ c κs. search needs) (λ c. c .refusal .ensures ∙ ap asJob (too-long unitLimits _ (c .before .if1 .taken))) (λ c. search needs)
     (λ c. search needs) (λ c κs. search needs) (λ c κs. search needs)
     (λ c. whole-bad _ (c .before .before .before .before .before .before .before .if1 .left) _ _ _ (c .before .before .before .before .read-lines .ensures) _ (c .before .if2 .taken) (c .refusal2 .ensures))
     (λ c. whole-good _ (c .before .before .before .before .before .before .before .before .if1 .left) _ _ _ (c .before .before .before .before .before .read-lines .ensures) (c .before .before .if2 .left)))

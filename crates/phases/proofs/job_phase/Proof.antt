@@ -5,7 +5,7 @@ use native.Mathlib.Omega.{arith}
 use Prim.Native.Nat.{_*_}
 use lib.Seq.{length-take-le}
 use Rattle.jobfile.specs.Forms.{tilesAcross}
-use Rattle.unit.specs.Room.{jobRects}
+use Rattle.unit.specs.Ready.{jobRects}
 use Rattle.unit.proofs.Running.{tiles-few, ready-at, run-at}
 use Rattle.phases.specs.Phase.{phaseNumber}
 use Rattle.phases.proofs.job_phase.Statement.{statement}

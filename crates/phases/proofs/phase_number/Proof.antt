@@ -1,7 +1,7 @@
 -- `phases::phase_number` meets its contract. Assumes nothing.
 use borrow.Author.Needs.{needs}
 use Rattle.unit.specs.Answering.{answerOf}
-use Rattle.unit.specs.Room.{standingOf}
+use Rattle.unit.specs.Ready.{standingOf}
 use Rattle.phases.proofs.Laws.{other-phase, told-phase}
 use Rattle.phases.proofs.phase_number.Statement.{statement}
 use Rattle.phases.proofs.phase_number.Tie as tie

@@ -3,7 +3,7 @@ use borrow.Author.Needs.{needs}
 use lib.Dec.{lit≤}
 use Rattle.spelling.specs.Text.{bytes}
 use Rattle.unit.proofs.Rooms.{in-room}
-use Rattle.unit.proofs.Replying.{printed-answer, printed-refusal}
+use Rattle.unit.proofs.Replying.{reported, printed-answer, printed-refusal}
 use Rattle.unit.proofs.report.Statement.{statement}
 use Rattle.unit.proofs.report.Tie as tie
 
@@ -11,7 +11,7 @@ returns : tie.Need-returns
 returns c =
     let s = c .before .before .before .before in
     let d = c .before .render in
-    printed-answer (s .args .file .now) (s .args .out .now) (d .last .1 .0) (d .result) (d .ensures) (c .if1 .taken) (s .args .out .now)
+    reported (printed-answer (s .args .file .now) (s .args .out .now) (d .last .1 .0) (d .result) (d .ensures) (c .if1 .taken) (s .args .out .now))
 
 write-line-requires : tie.Need-write-line-requires
 write-line-requires c κs = search needs
@@ -21,8 +21,9 @@ unfolding bytes
 returns-2 c =
     let s = c .before .before .before .before .before .before .before .before in
     let d = c .before .before .before .before .before .render in
-    printed-refusal (s .args .file .now) (s .args .out .now) (d .last .1 .0) (d .result) (d .ensures) (c .before .before .before .before .if1 .left) _ _
-    (in-room (lit≤ tt) (c .write-line .ensures))
+    reported
+    (printed-refusal (s .args .file .now) (s .args .out .now) (d .last .1 .0) (d .result) (d .ensures) (c .before .before .before .before .if1 .left) _ _
+    (in-room (lit≤ tt) (c .write-line .ensures)))
 
 pub report-spec : {M : Type 1} → statement M
 report-spec = tie.close (tie.spec (λ c κs. search needs) returns (λ c. search needs) (λ c. search needs) write-line-requires returns-2)

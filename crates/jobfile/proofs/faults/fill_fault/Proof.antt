@@ -3,8 +3,9 @@ use Prim.Native.Nat.{_<_}
 use native.Mathlib.Omega.{arith}
 use borrow.Author.Needs.{needs}
 use denote.Ref.{now}
+use Rattle.jobfile.specs.Held.{amountsRoom}
 use Rattle.jobfile.proofs.Entering.{few-across}
-use Rattle.jobfile.proofs.Faulting.{ready, tile-in-table, fill-column, fill-row, fill-taken, fill-over, fill-right}
+use Rattle.jobfile.proofs.Faulting.{shapes-held, tile-in-table, fill-column, fill-row, fill-taken, fill-over, fill-right}
 use Rattle.jobfile.proofs.faults.fill_fault.Statement.{statement}
 use Rattle.jobfile.proofs.faults.fill_fault.Tie as tie
 
@@ -12,10 +13,10 @@ tile-place-requires : tie.Need-tile-place-requires
 tile-place-requires c κs =
     let start = c .before .before .before .before .before .before in
     let tiles = c .before .before .tiles-across .ensures in
-    (few-across (start .args .s .head) (start .pre .1 .agreement), omega arith, omega arith)
+    record { few = few-across (start .args .s .head) (start .pre .1 .agreement); column = omega arith; row = omega arith }
 
 -- the tile's place is in the table
-place : (c : tie.After-tile-place) → c .tile-place .result < 4096
+place : (c : tie.After-tile-place) → c .tile-place .result < amountsRoom
 place c =
     let tiles = c .before .before .before in
     let start = tiles .before .before .before .before in
@@ -29,8 +30,11 @@ tile-room-requires : tie.Need-tile-room-requires
 tile-room-requires c κs =
     let start = c .before .before .before .before .before .before .before .before .before in
     let tiles = c .before .before .before .before .before .tiles-across .ensures in
-    let k = ready (start .args .s) (now (start .args .rects)) (now (start .args .amounts)) (start .pre .0) in
-    (k .within, (k .drawn, (start .pre .1, (omega arith, omega arith))))
+    record {
+      shapes = shapes-held (start .args .s) (now (start .args .rects)) (now (start .args .amounts)) (start .pre .0);
+      head = start .pre .1;
+      tile = record { few = few-across (start .args .s .head) (start .pre .1 .agreement); column = omega arith; row = omega arith };
+    }
 
 pub fill-fault-spec : {M : Type 1} → statement M
 fill-fault-spec =

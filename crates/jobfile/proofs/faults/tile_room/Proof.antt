@@ -15,8 +15,7 @@ use Rattle.jobfile.proofs.faults.tile_room.Tie as tie
 tile-box-requires : tie.Need-tile-box-requires
 tile-box-requires c κs =
     let start = c .before .before .before in
-    let here = start .pre .1 .1 .1 in
-    tile-corners (start .args .s .head) _ _ _ (start .pre .1 .1 .0) (here .0) (here .1) (c .tile-side .ensures)
+    tile-corners (start .args .s .head) _ _ _ (start .pre .head) (start .pre .tile) (c .tile-side .ensures)
 
 -- the box is the tile
 box : (c : tie.After-tile-box) →
@@ -29,8 +28,7 @@ box c =
 fillable-requires : tie.Need-fillable-requires
 fillable-requires c κs =
     let start = c .before .before .before .before .before in
-    let here = start .pre .1 .1 .1 in
-    tile-small (start .args .s) (now (start .args .rects)) _ _ _ (start .pre .1 .0) (start .pre .1 .1 .0) (here .0) (here .1) (box (c .before))
+    tile-small (start .args .s) (now (start .args .rects)) _ _ _ (start .pre) (box (c .before))
 
 returns : tie.Need-returns
 returns c =
@@ -41,4 +39,4 @@ returns c =
 pub tile-room-spec : {M : Type 1} → statement M
 tile-room-spec =
     tie.close
-    (tie.spec (λ c. search needs) (λ c κs. search needs) tile-box-requires (λ c. sym (length-take-le _ _ (search needs))) fillable-requires returns)
+    (tie.spec (λ c. search needs) (λ c κs. search needs) tile-box-requires (λ c. sym (length-take-le _ _ (c .before .before .before .before .before .pre .shapes .within))) fillable-requires returns)

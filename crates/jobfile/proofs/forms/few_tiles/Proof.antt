@@ -4,7 +4,7 @@ use mathlib.Core.Bool.{_&&_}
 use mathlib.Core.Path.{ap, _∙_}
 use borrow.Author.Needs.{needs}
 use lib.Dec.{leb}
-use Rattle.jobfile.specs.Limits.{mostTiles}
+use Rattle.jobfile.specs.Limits.{unitLimits}
 use Rattle.jobfile.proofs.forms.few_tiles.Statement.{statement}
 use Rattle.jobfile.proofs.forms.few_tiles.Tie as tie
 
@@ -12,4 +12,4 @@ pub few-tiles-spec : {M : Type 1} → statement M
 few-tiles-spec =
     tie.close
     (tie.spec (λ c κs. search needs) (λ c κs. search needs)
-    (λ c. c .both .ensures ∙ ap (λ (n : ℕ). leb n mostTiles && leb (c .before .before .before .args .h .lower) (c .before .before .before .args .h .upper)) (c .before .before .tiles-across .ensures)))
+    (λ c. c .both .ensures ∙ ap (λ (n : ℕ). leb n (unitLimits .tiles) && leb (c .before .before .before .args .h .lower) (c .before .before .before .args .h .upper)) (c .before .before .tiles-across .ensures)))

@@ -1,6 +1,7 @@
 -- `jobfile::forms::in_range` meets its contract. Each arm is given that the form is the one matched. Assumes nothing.
 use mathlib.Core.Path.{sym, ap, _∙_}
 use borrow.Author.Needs.{needs}
+use Rattle.jobfile.specs.Limits.{unitLimits}
 use Rattle.jobfile.specs.Forms.{inRange}
 use Rattle.jobfile.proofs.forms.in_range.Statement.{statement}
 use Rattle.jobfile.proofs.forms.in_range.Tie as tie
@@ -10,6 +11,6 @@ in-range-spec =
     tie.close
     (tie.spec (λ c. search needs) (λ c. search needs) (λ c κs. search needs) (λ c. search needs) (λ c κs. search needs) (λ c. search needs)
     (λ c κs. search needs) (λ c. search needs) (λ c. search needs)
-    (λ c. c .head-in-range .ensures ∙ ap inRange (sym (c .before .before .f .given .1)))
-    (λ c. c .rect-in-range .ensures ∙ ap inRange (sym (c .before .before .f2 .given .1)))
-    (λ c. c .fill-in-range .ensures ∙ ap inRange (sym (c .before .before .f3 .given .1))) (λ c. search needs))
+    (λ c. c .head-in-range .ensures ∙ ap (inRange unitLimits) (sym (c .before .before .f .given .1)))
+    (λ c. c .rect-in-range .ensures ∙ ap (inRange unitLimits) (sym (c .before .before .f2 .given .1)))
+    (λ c. c .fill-in-range .ensures ∙ ap (inRange unitLimits) (sym (c .before .before .f3 .given .1))) (λ c. search needs))

@@ -6,7 +6,7 @@ use Prim.Native.Nat.{_*_}
 use lib.Seq.{length-take-le}
 use Rattle.jobfile.specs.Forms.{tilesAcross}
 use Rattle.unit.specs.Answering.{textOf}
-use Rattle.unit.specs.Room.{jobRects}
+use Rattle.unit.specs.Ready.{jobRects}
 use Rattle.unit.proofs.Running.{tiles-few, ready-at, run-at}
 use Rattle.unit.proofs.Rooms.{told}
 use Rattle.unit.proofs.render.render_job.Statement.{statement}

@@ -1,0 +1,103 @@
+-- What accepted and refused mean, under some limits, without reading a line: a file is the spellings of good forms in turn, up to (end), or it
+-- has a first fault. `Acceptance` says that `outcomeOf` gives just this, so a buyer need not follow `formOf` and `readLines`.
+use Prim.Native.Nat.{ℕ, _+_, _≤_, _<_}
+use mathlib.Core.Path.{_≡_}
+use mathlib.Core.Bool.{Bool, true, not, _&&_}
+use mathlib.Core.List.{List, [], _∷_, _++_}
+use lib.Dec.{eqb}
+use lib.ListN.{length}
+use Rattle.spelling.specs.Decimal.{EachShort}
+use Rattle.spelling.specs.Pattern.{spell}
+use Rattle.jobfile.specs.declared.Form.{Form}
+use Rattle.jobfile.specs.declared.Form.the-variants.{Unknown, Heading, Shape, Fill, End}
+use Rattle.jobfile.specs.declared.Turn.the-variants.{Done}
+use Rattle.jobfile.specs.Limits.{Limits, Widened}
+use Rattle.jobfile.specs.Forms.{headPattern, rectPattern, fillPattern, endPattern}
+use Rattle.jobfile.specs.Faults.{Standing, beforeHead, known, lineFault, standsAfter}
+use Rattle.jobfile.specs.File.{Outcome, refused, accepted, outcomeOf}
+
+-- ---- the spelling of a form
+
+-- the numbers of a form, in the order of its spelling
+abbrev pub numbersOf : Form → List ℕ
+numbersOf Unknown = []
+numbersOf (Heading h) = h .size ∷ h .window ∷ h .cut ∷ h .gap ∷ h .lower ∷ h .upper ∷ h .accuracy ∷ h .levels ∷ []
+numbersOf (Shape r) = r .x1 ∷ r .y1 ∷ r .x2 ∷ r .y2 ∷ []
+numbersOf (Fill i j p) = i ∷ j ∷ p ∷ []
+numbersOf End = []
+
+-- the spelling of a form, without the line feed; a line that is none of the spellings has none
+unfoldable pub spellingOf : Form → List ℕ
+spellingOf Unknown = []
+spellingOf (Heading h) = spell headPattern (numbersOf (Heading h))
+spellingOf (Shape r) = spell rectPattern (numbersOf (Shape r))
+spellingOf (Fill i j p) = spell fillPattern (numbersOf (Fill i j p))
+spellingOf End = spell endPattern []
+
+-- a line spells a form: it is the form's spelling, and no number has too many digits
+pub record Spells (m : Limits) (line : List ℕ) (f : Form) : Type 0 where
+  pub form : known f ≡ true
+  pub spelling : line ≡ spellingOf f
+  pub short : EachShort (m .digits) (numbersOf f)
+
+-- the text of forms: each one's spelling with its line feed
+unfoldable pub formsText : List Form → List ℕ
+formsText [] = []
+formsText (f ∷ fs) = spellingOf f ++ (10 ∷ formsText fs)
+
+-- a text without a line feed
+unfoldable pub feedless : List ℕ → Bool
+feedless [] = true
+feedless (b ∷ s) = not (eqb b 10) && feedless s
+
+-- ---- good forms, and faults
+
+-- every form is good where it stands: from the first standing they lead to the second
+pub data Good (m : Limits) : Standing → List Form → Standing → Type 0 where
+  none : {st : Standing} → Good m st [] st
+  next : {st st′ : Standing} {f : Form} {fs : List Form} → EachShort (m .digits) (numbersOf f) → lineFault m st f ≡ 0 →
+      Good m (standsAfter st f) fs st′ → Good m st (f ∷ fs) st′
+
+-- the fault of a line that has its line feed, 0 for none: that of the form that it spells, or 2 where it spells none
+pub data LineFault (m : Limits) (st : Standing) (line : List ℕ) : ℕ → Type 0 where
+  spelled : {f : Form} → Spells m line f → LineFault m st line (lineFault m st f)
+  unspelled : ((f : Form) → Spells m line f → ⊥) → LineFault m st line 2
+
+-- the first fault of a text by number and line, where st stands before it and its first line is line k
+pub data FirstFault (m : Limits) (st : Standing) (k : ℕ) (s : List ℕ) : (number line : ℕ) → Type 0 where
+  -- good forms and then a line with a fault
+  faulty : (fs : List Form) {st′ : Standing} {number : ℕ} (line after : List ℕ) → s ≡ formsText fs ++ (line ++ (10 ∷ after)) → feedless line ≡ true →
+      Good m st fs st′ → LineFault m st′ line number → (number ≡ 0 → ⊥) → FirstFault m st k s number (length fs + k)
+  -- good forms and then a line without a line feed
+  unfed : (fs : List Form) {st′ : Standing} (line : List ℕ) → s ≡ formsText fs ++ line → feedless line ≡ true → 0 < length line →
+      Good m st fs st′ → FirstFault m st k s 2 (length fs + k)
+  -- good forms and no (end)
+  unended : (fs : List Form) {st′ : Standing} → s ≡ formsText fs → Good m st fs st′ → (st′ .turn ≡ Done → ⊥) → FirstFault m st k s 12 (length fs + k)
+
+-- ---- the whole file
+
+-- a file is accepted with what stands at its end: it is the spellings of good forms, up to (end)
+pub record AcceptedFile (m : Limits) (file : List ℕ) (st : Standing) : Type 0 where
+  pub forms : List Form
+  pub size : length file ≤ m .bytes
+  pub text : file ≡ formsText forms
+  pub good : Good m beforeHead forms st
+  pub ended : st .turn ≡ Done
+
+-- a file is refused: it is too long, or its lines have a first fault
+pub data RefusedFile (m : Limits) (file : List ℕ) : (number line : ℕ) → Type 0 where
+  long : m .bytes < length file → RefusedFile m file 1 0
+  lines : {number line : ℕ} → length file ≤ m .bytes → FirstFault m beforeHead 1 file number line → RefusedFile m file number line
+
+-- ---- what is promised of every file; proofs/Files.antt and proofs/Widening.antt prove it for all limits
+
+-- a file is accepted, or refused with a number and a line, exactly if it is so as said above
+pub record Acceptance (m : Limits) (file : List ℕ) : Type 0 where
+  pub accepted-if : (st : Standing) → AcceptedFile m file st → outcomeOf m file ≡ accepted st
+  pub accepted-only-if : (st : Standing) → outcomeOf m file ≡ accepted st → AcceptedFile m file st
+  pub refused-if : (number line : ℕ) → RefusedFile m file number line → outcomeOf m file ≡ refused number line
+  pub refused-only-if : (number line : ℕ) → outcomeOf m file ≡ refused number line → RefusedFile m file number line
+
+-- where limits are widened, every file that was accepted still is, with the same standing
+abbrev pub Widening : Type 0
+Widening = (old new : Limits) → Widened old new → (file : List ℕ) (st : Standing) → outcomeOf old file ≡ accepted st → outcomeOf new file ≡ accepted st

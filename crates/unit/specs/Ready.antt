@@ -1,0 +1,45 @@
+-- A job that may be run. A buyer need not read it.
+use Prim.Native.Nat.{ℕ, _*_, _≤_}
+use mathlib.Core.Path.{_≡_}
+use mathlib.Core.List.{List}
+use lib.ListN.{length, take}
+use Rattle.geometry.specs.Layout.{Drawn, rectsOf}
+use Rattle.fill.specs.Limits.{Planned}
+use Rattle.jobfile.specs.declared.Head.{Head}
+use Rattle.jobfile.specs.declared.Job.{Job}
+use Rattle.jobfile.specs.declared.Turn.the-variants.{Done}
+use Rattle.jobfile.specs.Limits.{unitLimits}
+use Rattle.jobfile.specs.Forms.{tileSide, tilesAcross}
+use Rattle.jobfile.specs.Faults.{Standing}
+use Rattle.jobfile.specs.Held.{rectsRoom, amountsRoom, tileCount}
+
+-- what a head and the two tables stand for
+abbrev pub standingOf : Head → (rects amounts : List ℕ) → Standing
+standingOf h rects amounts = record { turn = Done; head = h; shapes = rectsOf rects; amounts = amounts }
+
+-- what 64 bits ask of a job that is run
+pub record Ready (h : Head) (rects amounts : List ℕ) : Type 0 where
+  pub drawn : Drawn rects
+  pub some-window : 1 ≤ h .window
+  pub window-fits : h .window ≤ h .size
+  pub small : h .size ≤ 1048576
+  pub accurate : h .accuracy ≤ 1000
+  pub planned : Planned rects amounts (tilesAcross h) (h .cut) (tileSide h) (h .lower) (h .upper) (h .window)
+
+-- the tables of a job that was read, without the zeros behind them, and what stands at its end
+abbrev pub jobRects : Job → List ℕ
+jobRects j = take (4 * j .count) (j .rects)
+
+abbrev pub jobAmounts : Job → List ℕ
+jobAmounts j = take (tileCount (j .head)) (j .amounts)
+
+abbrev pub jobStanding : Job → Standing
+jobStanding j = standingOf (j .head) (jobRects j) (jobAmounts j)
+
+-- a job that was read may be run
+pub record Readable (j : Job) : Type 0 where
+  pub shapes : j .count ≤ unitLimits .shapes
+  pub room : length (j .rects) ≡ rectsRoom
+  pub cells : length (j .amounts) ≡ amountsRoom
+  pub tiles : tilesAcross (j .head) ≤ unitLimits .tiles
+  pub ready : Ready (j .head) (jobRects j) (jobAmounts j)
