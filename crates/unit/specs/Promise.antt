@@ -15,11 +15,11 @@ use Rattle.fill.specs.declared.Bound.{Bound}
 use Rattle.fill.specs.declared.Verdict.{Verdict}
 use Rattle.fill.specs.Judge.{boundNumber, verdictNumbers}
 use Rattle.fill.specs.Placement.{Placement, placedSum, keeps}
-use Rattle.jobfile.specs.Forms.{tileSide, tilesAcross}
+use Rattle.jobfile.specs.Forms.{tileSide}
 use Rattle.jobfile.specs.Faults.{Standing}
 use Rattle.jobfile.specs.File.{accepted, outcomeOf}
 use Rattle.unit.specs.declared.run.Answer.{Answer}
-use Rattle.unit.specs.Answering.{answerOf}
+use Rattle.unit.specs.Answering.{planOf, answerOf}
 use Rattle.unit.specs.Whole.{replyFor, replyNumber}
 
 -- (x, y) is a whole-number window position
@@ -46,12 +46,11 @@ distance a b = (a - b) + (b - a)
 
 -- a choice of unit squares is a placement of the job's fill
 abbrev pub Places : Standing → (ℕ → ℕ → Bool) → Type 0
-Places st chosen = Placement (st .head .gap) (st .shapes) (st .amounts) (tilesAcross (st .head)) (tileSide (st .head)) chosen
+Places st chosen = Placement (st .head .gap) (st .shapes) (st .amounts) (planOf (st .head)) chosen
 
 -- under a placement the position (x, y) keeps a bound
 abbrev pub KeepsAt : Standing → (ℕ → ℕ → Bool) → Bound → (x y : ℕ) → Type 0
-KeepsAt st chosen b x y =
-    T (keeps b (st .head .lower) (st .head .upper) (st .head .window) (placedSum (st .shapes) chosen (st .head .window) x y))
+KeepsAt st chosen b x y = T (keeps b (planOf (st .head)) (placedSum (st .shapes) chosen (st .head .window) x y))
 
 -- the exact run: M is the area of the window it names, no position has more, and none before it has as much; its minimum likewise, and no
 -- position has less

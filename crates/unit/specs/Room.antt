@@ -13,7 +13,7 @@ use Rattle.jobfile.specs.Forms.{tileSide, tilesAcross}
 use Rattle.jobfile.specs.Faults.{Standing}
 use Rattle.jobfile.specs.File.{Outcome, refused, accepted}
 use Rattle.unit.specs.declared.render.Rendered.{Rendered}
-use Rattle.unit.specs.Answering.{answerOf, textOf}
+use Rattle.unit.specs.Answering.{planOf, answerOf, textOf}
 
 -- a text was written at a place, in at most `room` bytes
 pub record WrittenIn (room : ℕ) (before : List ℕ) (at : ℕ) (text after : List ℕ) (next : ℕ) : Type 0 where
@@ -33,7 +33,7 @@ pub record Ready (h : Head) (rects amounts : List ℕ) : Type 0 where
   pub accurate : h .accuracy ≤ 1000
   pub some-cut : 1 ≤ h .cut
   pub some-tile : 1 ≤ tileSide h
-  pub planned : Planned rects amounts (tilesAcross h) (h .cut) (tileSide h) (h .lower) (h .upper) (h .window)
+  pub planned : Planned rects amounts (planOf h)
 
 -- the tables of a job that was read, without the zeros behind them, and what stands at its end
 abbrev pub jobRects : Job → List ℕ
