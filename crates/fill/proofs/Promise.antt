@@ -10,7 +10,7 @@ use native.Mathlib.Omega.{arith}
 use lib.Dec.{T, leb→le, le→leb}
 use Rattle.geometry.specs.declared.Rect.{Rect}
 use Rattle.geometry.specs.Count.{boxSum, one-if}
-use Rattle.geometry.specs.Layout.{covered, coveredArea, window}
+use Rattle.geometry.specs.Layout.{covered, coveredArea, windowBox}
 use Rattle.geometry.proofs.Counting.{le-or-lt, box-cong, box-plus, box-within}
 use Rattle.fill.specs.declared.Plan.{Plan}
 use Rattle.fill.specs.declared.Bound.{Bound}
@@ -159,8 +159,8 @@ module _ (gap : ℕ) (rs : List Rect) (amounts : List ℕ) (plan : Plan) (size :
     bloated-more =
         omega (
           arith,
-          metal-box rs chosen (window (plan .window) x y),
-          box-within (window (plan .window) x y)
+          metal-box rs chosen (windowBox (plan .window) x y),
+          box-within (windowBox (plan .window) x y)
               (record {
                 x1 = (x / side) * side;
                 y1 = (y / side) * side;
@@ -177,10 +177,10 @@ module _ (gap : ℕ) (rs : List Rect) (amounts : List ℕ) (plan : Plan) (size :
     shrunk-less =
         omega (
           arith,
-          metal-box rs chosen (window (plan .window) x y),
+          metal-box rs chosen (windowBox (plan .window) x y),
           box-within
               (record { x1 = suc (x / side) * side; y1 = suc (y / side) * side; x2 = (x / side + cut) * side; y2 = (y / side + cut) * side })
-              (window (plan .window) x y) (metal rs chosen)
+              (windowBox (plan .window) x y) (metal rs chosen)
               (omega (arith, suc-mul (x / side) side, lt-div-mul-add {a = x} {b = side} pos))
               (omega (arith, suc-mul (y / side) side, lt-div-mul-add {a = y} {b = side} pos))
               (omega (arith, whole .window, add-mul (x / side) cut side, div-mul-le-self x side))
@@ -218,7 +218,7 @@ module _ (gap : ℕ) (rs : List Rect) (amounts : List ℕ) (plan : Plan) (size :
   -- the sum of a window on the tile grid is its tiles' load
   on-grid : (i j : ℕ) → i ≤ across - cut → j ≤ across - cut → placed (i * side) (j * side) ≡ boxSum (standardTiles plan i j) loads
   on-grid i j hi hj =
-      sym (metal-box rs chosen (window (plan .window) (i * side) (j * side)))
+      sym (metal-box rs chosen (windowBox (plan .window) (i * side) (j * side)))
       ∙ ap₂ (λ (a b : ℕ). boxSum (record { x1 = i * side; y1 = j * side; x2 = a; y2 = b }) (metal rs chosen)) (tiles-end i) (tiles-end j)
       ∙ tiles-load i j (i + cut) (j + cut) (omega (arith, whole .fits)) (omega (arith, whole .fits))
     where

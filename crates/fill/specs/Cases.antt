@@ -1,7 +1,8 @@
 -- Document 01, "Proved cases", rows A5 to A8: fillable areas and verdicts. The unit's proofs/Cases.antt shows that they follow.
 use Prim.Native.Nat.{ℕ}
 use mathlib.Core.List.{List, [], _∷_}
-use Rattle.geometry.specs.Cases.{Row, row, shapesA}
+use Rattle.geometry.specs.Row.{Row, row}
+use Rattle.geometry.specs.JobA.{shapesA}
 use Rattle.fill.specs.Eligible.{fillableArea, tile}
 use Rattle.fill.specs.Judge.{verdictOf, verdictNumbers}
 

@@ -6,7 +6,7 @@ use mathlib.Core.List.{List}
 use lib.Dec.{T}
 use Rattle.geometry.specs.declared.Rect.{Rect}
 use Rattle.geometry.specs.Count.{one-if, boxSum}
-use Rattle.geometry.specs.Layout.{coveredArea, window}
+use Rattle.geometry.specs.Layout.{coveredArea, windowBox}
 use Rattle.fill.specs.Eligible.{eligible, tile}
 use Rattle.fill.specs.declared.Plan.{Plan}
 use Rattle.fill.specs.declared.Bound.{Bound}
@@ -24,7 +24,7 @@ pub record Placement (gap : ℕ) (rs : List Rect) (amounts : List ℕ) (plan : P
 
 -- the sum S of the window of side w at (x, y): its covered and its chosen squares
 abbrev pub placedSum : List Rect → (ℕ → ℕ → Bool) → (w x y : ℕ) → ℕ
-placedSum rs chosen w x y = coveredArea rs (window w x y) + chosenArea chosen (window w x y)
+placedSum rs chosen w x y = coveredArea rs (windowBox w x y) + chosenArea chosen (windowBox w x y)
 
 -- whether the sum keeps a bound: U for over, L for under; a position breaks a bound that its sum does not keep
 abbrev pub keeps : Bound → Plan → (total : ℕ) → Bool

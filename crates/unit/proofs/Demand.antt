@@ -79,19 +79,19 @@ number-broken (Broken c k l) b i j h = λ t. Broken (bound t) (column t) (row t)
 real : (s : Sense) (st : Standing) → RealWindow st (extreme s (st .shapes) (st .head .size) (st .head .window))
 real s st =
     let p = extreme-over-all s (st .shapes) (st .head .size) (st .head .window) in
-    record { position = record { across = p .x-in; down = p .y-in }; area = p .area-is }
+    record { position = p .position; area = p .area-is }
 
 earliest : (s : Sense) (st : Standing) → Earliest st (extreme s (st .shapes) (st .head .size) (st .head .window))
-earliest s st x y p = extreme-over-all s (st .shapes) (st .head .size) (st .head .window) .first x y (p .across) (p .down)
+earliest s st x y p = extreme-over-all s (st .shapes) (st .head .size) (st .head .window) .first x y p
 
 exact-kept : (st : Standing) → ExactPromise st (exactRun (st .shapes) (st .head .size) (st .head .window))
 exact-kept st =
     record {
       greatest = real Greatest st;
-      none-more = λ x y p. extreme-over-all Greatest (st .shapes) (st .head .size) (st .head .window) .none-better x y (p .across) (p .down);
+      none-more = extreme-over-all Greatest (st .shapes) (st .head .size) (st .head .window) .none-better;
       greatest-first = earliest Greatest st;
       least = real Least st;
-      none-less = λ x y p. extreme-over-all Least (st .shapes) (st .head .size) (st .head .window) .none-better x y (p .across) (p .down);
+      none-less = extreme-over-all Least (st .shapes) (st .head .size) (st .head .window) .none-better;
       least-first = earliest Least st;
     }
 
