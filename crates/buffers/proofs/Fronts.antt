@@ -13,27 +13,27 @@ use Rattle.buffers.proofs.Writing.{written-length}
 pub front-same : (out : List ℕ) (count : ℕ) → count ≤ length out → Front out (take count out) out count
 front-same out count h = record {
   count = sym (length-take-le count out h);
-  kept = rw (length-take-le count out h) (sym (take-append-drop count out));
+  buffer = rw (length-take-le count out h) (sym (take-append-drop count out));
 }
 
 pub front-take : (before w after : List ℕ) (r : ℕ) → Front before w after r → take r after ≡ w
-front-take before w after r p = ap (take r) (p .kept) ∙ take-at w (drop (length w) before) r (sym (p .count))
+front-take before w after r p = ap (take r) (p .buffer) ∙ take-at w (drop (length w) before) r (sym (p .count))
 
 pub front-fits : (before w after : List ℕ) (r : ℕ) → Front before w after r → r ≤ length after
-front-fits before w after r p = omega (arith, p .count, ap length (p .kept), length-append w (drop (length w) before))
+front-fits before w after r p = omega (arith, p .count, ap length (p .buffer), length-append w (drop (length w) before))
 
 pub front-count : (before w after : List ℕ) (r : ℕ) → Front before w after r → r ≡ length (take r after)
 front-count before w after r p = p .count ∙ ap length (sym (front-take before w after r p))
 
 pub front-chain : (before l mid m after : List ℕ) (k r : ℕ) → Front before l mid k → Front mid m after r → length l ≤ length m → Front before m after r
-front-chain before l mid m after k r f g h = record { count = g .count; kept = g .kept ∙ ap (λ (t : List ℕ). m ++ t) rest }
+front-chain before l mid m after k r f g h = record { count = g .count; buffer = g .buffer ∙ ap (λ (t : List ℕ). m ++ t) rest }
   where
     more : length l + (length m - length l) ≡ length m
     more = omega arith
 
     rest : drop (length m) mid ≡ drop (length m) before
     rest =
-        rw (← more, f .kept)
+        rw (← more, f .buffer)
         (drop-append-add l (drop (length l) before) (length m - length l) ∙ drop-drop (length m - length l) (length l) before)
 
 -- ---- a list that a loop over a table writes at the front of a buffer
@@ -94,7 +94,7 @@ module _ (f : List ℕ → List ℕ) (t before out : List ℕ) (at i : ℕ) (s :
   front-ends done =
       record {
         count = sym size;
-        kept =
+        buffer =
             sym (take-append-drop at out)
             ∙ ap₂ _++_ all (s .rest)
             ∙ ap (λ (k : ℕ). f t ++ drop k before) (sym size);

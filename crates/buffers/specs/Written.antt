@@ -20,4 +20,4 @@ atFront l b = l ++ drop (length l) b
 -- what writing a list at the front leaves, and how many were written
 pub record Front (before l after : List ℕ) (r : ℕ) : Type 0 where
   pub count : r ≡ length l
-  pub kept : after ≡ atFront l before
+  pub buffer : after ≡ atFront l before

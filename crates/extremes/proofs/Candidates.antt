@@ -13,7 +13,7 @@ use Rattle.geometry.specs.declared.Rect.{Rect}
 use Rattle.geometry.specs.declared.Sense.{Sense}
 use Rattle.geometry.specs.declared.Sense.the-variants.{Greatest, Least}
 use Rattle.geometry.specs.Count.{one-if}
-use Rattle.geometry.specs.Layout.{window, Disjoint}
+use Rattle.geometry.specs.Layout.{windowBox, Disjoint}
 use Rattle.geometry.specs.Overlaps.{common, overlapSum}
 use Rattle.geometry.proofs.Counting.{le-or-lt}
 use Rattle.geometry.proofs.Overlaps.{overlap-is-area}
@@ -25,10 +25,10 @@ abbrev pub Better : Sense → ℕ → ℕ → Type 0
 Better Greatest a b = b < a
 Better Least a b = a < b
 
--- a is no better than b
-abbrev pub NoBetter : Sense → ℕ → ℕ → Type 0
-NoBetter Greatest a b = a ≤ b
-NoBetter Least a b = b ≤ a
+-- a is no better than b, as an inequality
+abbrev pub Bounded : Sense → ℕ → ℕ → Type 0
+Bounded Greatest a b = a ≤ b
+Bounded Least a b = b ≤ a
 
 -- ---- how much of a span a window covers, as the window moves
 
@@ -108,11 +108,11 @@ highMeets Least a b = a
 
 -- a span's part in the window does not bend towards an extreme where no edge meets its side
 part-straight : (s : Sense) (a b x e : ℕ) → x ≤ e → (lowMeets s a b ≡ suc x → ⊥) → (highMeets s a b ≡ suc e → ⊥) →
-    NoBetter s (2 * common a b (suc x) (suc e)) (common a b x e + common a b (suc (suc x)) (suc (suc e)))
+    Bounded s (2 * common a b (suc x) (suc e)) (common a b x e + common a b (suc (suc x)) (suc (suc e)))
 part-straight s a b x e k low high = go s low high (le-or-lt a b)
   where
     go : (s : Sense) → (lowMeets s a b ≡ suc x → ⊥) → (highMeets s a b ≡ suc e → ⊥) → (a ≤ b) ⊎ (b < a) →
-        NoBetter s (2 * common a b (suc x) (suc e)) (common a b x e + common a b (suc (suc x)) (suc (suc e)))
+        Bounded s (2 * common a b (suc x) (suc e)) (common a b x e + common a b (suc (suc x)) (suc (suc e)))
     go Greatest l h (inl p) = omega (arith, second-difference a b x e p k, bend-none a x l, bend-none b e h)
     go Least l h (inl p) = omega (arith, second-difference a b x e p k, bend-none b x l, bend-none a e h)
     go Greatest l h (inr q) = omega (arith, common-none a b (suc x) (suc e) q)
@@ -121,9 +121,9 @@ part-straight s a b x e k low high = go s low high (le-or-lt a b)
 -- ---- rectangles with weights, added up
 
 -- of each rectangle the part from a to b that lies in the window at x, times its weight
-unfoldable pub parts : (a b weight : Rect → ℕ) → List Rect → (w x : ℕ) → ℕ
-parts a b weight [] w x = 0
-parts a b weight (r ∷ rs) w x = common (a r) (b r) x (x + w) * weight r + parts a b weight rs w x
+unfoldable pub weightedSum : (a b weight : Rect → ℕ) → List Rect → (w x : ℕ) → ℕ
+weightedSum a b weight [] w x = 0
+weightedSum a b weight (r ∷ rs) w x = common (a r) (b r) x (x + w) * weight r + weightedSum a b weight rs w x
 
 -- an edge of the window at p meets a rectangle: the low edge its side `low`, or the high edge its side `high`
 pub data Meets (low high : Rect → ℕ) (w p : ℕ) : List Rect → Type 0 where
@@ -133,19 +133,19 @@ pub data Meets (low high : Rect → ℕ) (w p : ℕ) : List Rect → Type 0 wher
 
 -- f does not bend towards an extreme at x + 1
 abbrev Straight : Sense → (ℕ → ℕ) → ℕ → Type 0
-Straight s f x = NoBetter s (2 * f (suc x)) (f x + f (suc (suc x)))
+Straight s f x = Bounded s (2 * f (suc x)) (f x + f (suc (suc x)))
 
 window-straight : (s : Sense) (a b w x : ℕ) → (lowMeets s a b ≡ suc x → ⊥) → (highMeets s a b ≡ suc x + w → ⊥) →
     Straight s (λ z. common a b z (z + w)) x
 window-straight s a b w x low high =
     rw (suc-add (suc x) w, suc-add x w) (part-straight s a b x (x + w) (omega arith) low (λ e. high (e ∙ sym (suc-add x w))))
 
-weighted-straight : (s : Sense) (p₀ p₁ p₂ q₀ q₁ q₂ k : ℕ) → NoBetter s (2 * p₁) (p₀ + p₂) → NoBetter s (2 * q₁) (q₀ + q₂) →
-    NoBetter s (2 * (p₁ * k + q₁)) (p₀ * k + q₀ + (p₂ * k + q₂))
+weighted-straight : (s : Sense) (p₀ p₁ p₂ q₀ q₁ q₂ k : ℕ) → Bounded s (2 * p₁) (p₀ + p₂) → Bounded s (2 * q₁) (q₀ + q₂) →
+    Bounded s (2 * (p₁ * k + q₁)) (p₀ * k + q₀ + (p₂ * k + q₂))
 weighted-straight Greatest p₀ p₁ p₂ q₀ q₁ q₂ k h l = omega (arith, mul-le-mul-right k h)
 weighted-straight Least p₀ p₁ p₂ q₀ q₁ q₂ k h l = omega (arith, mul-le-mul-right k h)
 
-none-straight : (s : Sense) → NoBetter s 0 0
+none-straight : (s : Sense) → Bounded s 0 0
 none-straight Greatest = omega arith
 none-straight Least = omega arith
 
@@ -156,13 +156,13 @@ module _ (s : Sense) (a b weight : Rect → ℕ) (w : ℕ) where
   abbrev high : Rect → ℕ
   high r = highMeets s (a r) (b r)
 
-  meets-or-straight : (rs : List Rect) (x : ℕ) → Meets low high w (suc x) rs ⊎ Straight s (parts a b weight rs w) x
-  unfolding parts
+  meets-or-straight : (rs : List Rect) (x : ℕ) → Meets low high w (suc x) rs ⊎ Straight s (weightedSum a b weight rs w) x
+  unfolding weightedSum
   meets-or-straight [] x = inr (none-straight s)
   meets-or-straight (r ∷ rs) x = go (ℕ-discrete (low r) (suc x)) (ℕ-discrete (high r) (suc x + w)) (meets-or-straight rs x)
     where
-      go : Dec (low r ≡ suc x) → Dec (high r ≡ suc x + w) → Meets low high w (suc x) rs ⊎ Straight s (parts a b weight rs w) x →
-          Meets low high w (suc x) (r ∷ rs) ⊎ Straight s (parts a b weight (r ∷ rs) w) x
+      go : Dec (low r ≡ suc x) → Dec (high r ≡ suc x + w) → Meets low high w (suc x) rs ⊎ Straight s (weightedSum a b weight rs w) x →
+          Meets low high w (suc x) (r ∷ rs) ⊎ Straight s (weightedSum a b weight (r ∷ rs) w) x
       go (yes e) h m = inl (low-edge e)
       go (no l) (yes e) m = inl (high-edge e)
       go (no l) (no h) (inl m) = inl (further m)
@@ -171,7 +171,7 @@ module _ (s : Sense) (a b weight : Rect → ℕ) (w : ℕ) where
 -- ---- the first extreme on an axis
 
 -- a first extreme between two neighbours bends
-bends : (s : Sense) (f : ℕ → ℕ) (x : ℕ) → Better s (f (suc x)) (f x) → NoBetter s (f (suc (suc x))) (f (suc x)) → Straight s f x → ⊥
+bends : (s : Sense) (f : ℕ → ℕ) (x : ℕ) → Better s (f (suc x)) (f x) → Bounded s (f (suc (suc x))) (f (suc x)) → Straight s f x → ⊥
 bends Greatest f x l h k = omega arith
 bends Least f x l h k = omega arith
 
@@ -184,47 +184,47 @@ pub data Candidate (low high : Rect → ℕ) (w last p : ℕ) (rs : List Rect) :
 -- f is best at p among the positions up to the last one, and better there than at each smaller position
 pub record FirstBest (s : Sense) (f : ℕ → ℕ) (last p : ℕ) : Type 0 where
   pub within : p ≤ last
-  pub best : (x : ℕ) → x ≤ last → NoBetter s (f x) (f p)
+  pub best : (x : ℕ) → x ≤ last → Bounded s (f x) (f p)
   pub first : (x : ℕ) → x < p → Better s (f p) (f x)
 
 first-best-cong : (s : Sense) (f g : ℕ → ℕ) (last p : ℕ) → ((x : ℕ) → f x ≡ g x) → FirstBest s f last p → FirstBest s g last p
 first-best-cong s f g last p e h = record {
   within = h .within;
-  best = λ x l. subst₂ (NoBetter s) (e x) (e p) (h .best x l);
+  best = λ x l. subst₂ (Bounded s) (e x) (e p) (h .best x l);
   first = λ x l. subst₂ (Better s) (e p) (e x) (h .first x l);
 }
 
-candidate-of : (s : Sense) (a b weight : Rect → ℕ) (w : ℕ) (rs : List Rect) (last p : ℕ) → FirstBest s (parts a b weight rs w) last p →
+candidate-of : (s : Sense) (a b weight : Rect → ℕ) (w : ℕ) (rs : List Rect) (last p : ℕ) → FirstBest s (weightedSum a b weight rs w) last p →
     Candidate (λ r. lowMeets s (a r) (b r)) (λ r. highMeets s (a r) (b r)) w last p rs
 candidate-of s a b weight w rs last zero h = at-start refl
 candidate-of s a b weight w rs last (suc x) h = go (ℕ-discrete (suc x) last) (meets-or-straight s a b weight w rs x)
   where
-    go : Dec (suc x ≡ last) → Meets (low s a b weight w) (high s a b weight w) w (suc x) rs ⊎ Straight s (parts a b weight rs w) x →
+    go : Dec (suc x ≡ last) → Meets (low s a b weight w) (high s a b weight w) w (suc x) rs ⊎ Straight s (weightedSum a b weight rs w) x →
         Candidate (low s a b weight w) (high s a b weight w) w last (suc x) rs
     go (yes e) m = at-end e
     go (no e) (inl m) = at-side m
     go (no e) (inr k) =
         let l : suc x ≤ last = h .within in
-        absurd (bends s (parts a b weight rs w) x (h .first x (omega arith)) (h .best (suc (suc x)) (omega arith)) k)
+        absurd (bends s (weightedSum a b weight rs w) x (h .first x (omega arith)) (h .best (suc (suc x)) (omega arith)) k)
 
 -- ---- both axes
 
 -- with y fixed the area is a sum of columns times rows; with x fixed, of rows times columns
 overlap-across : (rs : List Rect) (w x y : ℕ) →
-    overlapSum rs (window w x y) ≡ parts (side 0) (side 2) (λ r. common (r .y1) (r .y2) y (y + w)) rs w x
-unfolding overlapSum parts
+    overlapSum rs (windowBox w x y) ≡ weightedSum (side 0) (side 2) (λ r. common (r .y1) (r .y2) y (y + w)) rs w x
+unfolding overlapSum weightedSum
 overlap-across [] w x y = refl
 overlap-across (r ∷ rs) w x y = ap (λ (k : ℕ). common (r .x1) (r .x2) x (x + w) * common (r .y1) (r .y2) y (y + w) + k) (overlap-across rs w x y)
 
 overlap-up : (rs : List Rect) (w x y : ℕ) →
-    overlapSum rs (window w x y) ≡ parts (side 1) (side 3) (λ r. common (r .x1) (r .x2) x (x + w)) rs w y
-unfolding overlapSum parts
+    overlapSum rs (windowBox w x y) ≡ weightedSum (side 1) (side 3) (λ r. common (r .x1) (r .x2) x (x + w)) rs w y
+unfolding overlapSum weightedSum
 overlap-up [] w x y = refl
 overlap-up (r ∷ rs) w x y = ap₂ _+_ (mul-comm (common (r .x1) (r .x2) x (x + w)) (common (r .y1) (r .y2) y (y + w))) (overlap-up rs w x y)
 
 -- f, a sum of weighted parts along an axis
 candidate-on : (s : Sense) (axis : ℕ) (weight : Rect → ℕ) (rs : List Rect) (w last p : ℕ) (f : ℕ → ℕ) →
-    ((z : ℕ) → f z ≡ parts (side axis) (side (axis + 2)) weight rs w z) → FirstBest s f last p →
+    ((z : ℕ) → f z ≡ weightedSum (side axis) (side (axis + 2)) weight rs w z) → FirstBest s f last p →
     Candidate (side (nearSide s axis)) (side (farSide s axis)) w last p rs
 candidate-on s axis weight rs w last p f e h =
     go s (candidate-of s (side axis) (side (axis + 2)) weight w rs last p (first-best-cong s f _ last p e h))
@@ -239,10 +239,10 @@ pub candidate-across : (s : Sense) (rs : List Rect) (w last x y : ℕ) → Disjo
     Candidate (side (nearSide s 0)) (side (farSide s 0)) w last x rs
 candidate-across s rs w last x y d =
     candidate-on s 0 (λ r. common (r .y1) (r .y2) y (y + w)) rs w last x (λ z. windowArea rs w z y)
-    (λ z. overlap-is-area rs (window w z y) d ∙ overlap-across rs w z y)
+    (λ z. overlap-is-area rs (windowBox w z y) d ∙ overlap-across rs w z y)
 
 pub candidate-up : (s : Sense) (rs : List Rect) (w last x y : ℕ) → Disjoint rs → FirstBest s (λ z. windowArea rs w x z) last y →
     Candidate (side (nearSide s 1)) (side (farSide s 1)) w last y rs
 candidate-up s rs w last x y d =
     candidate-on s 1 (λ r. common (r .x1) (r .x2) x (x + w)) rs w last y (λ z. windowArea rs w x z)
-    (λ z. overlap-is-area rs (window w x z) d ∙ overlap-up rs w x z)
+    (λ z. overlap-is-area rs (windowBox w x z) d ∙ overlap-up rs w x z)

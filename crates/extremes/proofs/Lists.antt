@@ -81,7 +81,7 @@ module _ (out : List ℕ) (count : ℕ) (h : count < length out) where
   pub position-new : (last p : ℕ) (r : Bool) → p ≤ last → r ≡ listed p (take count out) → r ≡ false →
       Front out (withPosition last p (take count out)) (set out count p) (count + 1)
   unfolding withPosition
-  position-new last p r k e f = rw (le-leb p last k, withPosition, ← e, f) (record { count = sym longer; kept = stored })
+  position-new last p r k e f = rw (le-leb p last k, withPosition, ← e, f) (record { count = sym longer; buffer = stored })
     where
       longer : length (take count out ++ (p ∷ [])) ≡ count + 1
       longer = length-append (take count out) (p ∷ []) ∙ ap (λ (n : ℕ). n + 1) (length-take-le count out (le-of-lt h))
@@ -192,7 +192,7 @@ pub ends-listed : (out after : List ℕ) (last r : ℕ) → 1 < length out → F
     Front out (withPosition last last (0 ∷ [])) after r
 ends-listed [] after last r h f = absurd (omega arith)
 ends-listed (a ∷ s) after last r h f =
-    front-chain (a ∷ s) (0 ∷ []) (0 ∷ s) _ after 1 r (record { count = refl; kept = refl }) f (position-grown last last (0 ∷ []) .no-shorter)
+    front-chain (a ∷ s) (0 ∷ []) (0 ∷ s) _ after 1 r (record { count = refl; buffer = refl }) f (position-grown last last (0 ∷ []) .no-shorter)
 
 pub near-small : (s : Sense) (axis near : ℕ) → axis < 2 → near ≡ nearSide s axis → near < 4
 near-small Greatest axis near h e = omega arith

@@ -14,16 +14,16 @@ use Rattle.geometry.specs.declared.Sense.the-variants.{Greatest, Least}
 use Rattle.geometry.specs.Layout.{Disjoint, rectsOf, Drawn}
 use Rattle.buffers.specs.Written.{Front}
 use Rattle.geometry.specs.Extreme.{better, spotAt}
-use Rattle.geometry.proofs.Extremes.{NoLater, better-neither, IsBest, Start, start-at, start-in, rows-best-of-all, best-of-fewer, best-unique, Dispensable}
-use Rattle.extremes.specs.Exact.{windowArea, positions, extreme, exactRun}
+use Rattle.geometry.proofs.Extremes.{NoLater, better-neither, IsBest, Start, start-at, start-in, rows-best-of-all, best-of-fewer, best-same, best-unique, Dispensable}
+use Rattle.extremes.specs.Exact.{windowArea, positions, Position, extreme, exactRun}
 use Rattle.extremes.specs.Search.{candidates, leadingInRows, searched}
 use Rattle.buffers.proofs.Fronts.{front-take}
-use Rattle.extremes.proofs.Candidates.{Better, NoBetter, FirstBest, at-start, candidate-across, candidate-up}
+use Rattle.extremes.proofs.Candidates.{Better, Bounded, FirstBest, at-start, candidate-across, candidate-up}
 use Rattle.extremes.proofs.Tried.{candidates-complete, candidates-within}
 use Rattle.extremes.proofs.Leading.{Listed, leading-best}
 
 -- what the tests say
-pub not-better : (s : Sense) (a b : ℕ) → better s a b ≡ false → NoBetter s a b
+pub not-better : (s : Sense) (a b : ℕ) → better s a b ≡ false → Bounded s a b
 not-better Greatest a b e = ltb-false b a e
 not-better Least a b e = ltb-false a b e
 
@@ -31,26 +31,31 @@ worse : (s : Sense) (a b : ℕ) → better s a b ≡ false → (a ≡ b → ⊥)
 worse Greatest a b e h = omega (arith, ltb-false b a e)
 worse Least a b e h = omega (arith, ltb-false a b e)
 
--- every position is a start, 1 apart
-abbrev pub Position : (n w x y : ℕ) → Type 0
-Position n w = Start 1 (positions n w) (positions n w)
-
 pub position : (n w x y : ℕ) → x ≤ n - w → y ≤ n - w → Position n w x y
-position n w x y h k = start-at (positions n w) (positions n w) x y (omega arith) (omega arith)
+position n w x y h k = record { across = h; down = k }
 
 pub extreme-best : (s : Sense) (rs : List Rect) (n w : ℕ) → IsBest s (windowArea rs w) (Position n w) (extreme s rs n w)
 unfolding extreme
-extreme-best s rs n w = rows-best-of-all s (windowArea rs w) 1 (positions n w) (positions n w) (omega arith) (omega arith)
+extreme-best s rs n w =
+    best-same s (windowArea rs w) (Start 1 (positions n w) (positions n w)) (Position n w) _ is-position is-start
+    (rows-best-of-all s (windowArea rs w) 1 (positions n w) (positions n w) (omega arith) (omega arith))
+  where
+    -- every position is a start, 1 apart
+    is-position : (x y : ℕ) → Start 1 (positions n w) (positions n w) x y → Position n w x y
+    is-position x y p = let h = start-in (positions n w) (positions n w) x y p in position n w x y (omega (arith, h .0)) (omega (arith, h .1))
+
+    is-start : (x y : ℕ) → Position n w x y → Start 1 (positions n w) (positions n w) x y
+    is-start x y p = start-at (positions n w) (positions n w) x y (omega arith) (omega arith)
 
 module _ (s : Sense) (rs : List Rect) (n w : ℕ) (e : Spot) (h : IsBest s (windowArea rs w) (Position n w) e) where
-  pub x-in : e .x ≤ n - w
-  x-in = omega (arith, start-in (positions n w) (positions n w) (e .x) (e .y) (h .was-seen) .0)
+  x-in : e .x ≤ n - w
+  x-in = h .was-seen .across
 
-  pub y-in : e .y ≤ n - w
-  y-in = omega (arith, start-in (positions n w) (positions n w) (e .x) (e .y) (h .was-seen) .1)
+  y-in : e .y ≤ n - w
+  y-in = h .was-seen .down
 
   -- the extreme is the first one in its row and in its column
-  best-at : (x y : ℕ) → x ≤ n - w → y ≤ n - w → NoBetter s (windowArea rs w x y) (windowArea rs w (e .x) (e .y))
+  best-at : (x y : ℕ) → x ≤ n - w → y ≤ n - w → Bounded s (windowArea rs w x y) (windowArea rs w (e .x) (e .y))
   best-at x y k l = not-better s _ _ (rw (h .area-is) at (h .none-better x y (position n w x y k l)))
 
   first-at : (x y : ℕ) → x ≤ n - w → y ≤ n - w → (NoLater (e .x) (e .y) x y → ⊥) → Better s (windowArea rs w (e .x) (e .y)) (windowArea rs w x y)

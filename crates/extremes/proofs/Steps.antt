@@ -19,7 +19,7 @@ use Rattle.geometry.specs.Extreme.{better, spotAt}
 use Rattle.geometry.proofs.Overlaps.{strip-is-area}
 use Rattle.geometry.proofs.Strips.{strip-small}
 use Rattle.extremes.specs.Exact.{windowArea}
-use Rattle.extremes.specs.Search.{earlier, leads, leading, passed, leadingInRow, leadingInRows, Small}
+use Rattle.extremes.specs.Search.{earlier, leads, leading, passed, leadingInRow, leadingInRows, SmallList}
 use Rattle.buffers.proofs.Fronts.{front-take}
 
 -- ---- which of two windows goes first
@@ -73,7 +73,7 @@ passed-cong step other (p ∷ l) b h = passed-cong step other l (step p b) h ∙
 
 -- ---- positions and strips are small
 
-pub small-at : (l : List ℕ) (i : ℕ) → Small l → getD l i 0 ≤ 1048576
+pub small-at : (l : List ℕ) (i : ℕ) → SmallList l → getD l i 0 ≤ 1048576
 small-at l i h = h .small i
 
 -- the strip at the front of a buffer

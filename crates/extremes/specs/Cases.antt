@@ -3,7 +3,8 @@ use mathlib.Core.List.{List, [], _∷_}
 use Rattle.geometry.specs.declared.Rect.{Rect}
 use Rattle.geometry.specs.declared.Sense.the-variants.{Greatest, Least}
 use Rattle.geometry.specs.Extreme.{spotNumbers}
-use Rattle.geometry.specs.Cases.{Row, row, shapesA}
+use Rattle.geometry.specs.Row.{Row, row}
+use Rattle.geometry.specs.JobA.{shapesA}
 use Rattle.extremes.specs.Exact.{windowArea, extreme}
 
 -- case K: N 10, W 9

@@ -1,21 +1,26 @@
 -- Document 01, "Areas": the exact run's maximum and minimum over all window positions.
-use Prim.Native.Nat.{ℕ, suc, _-_}
+use Prim.Native.Nat.{ℕ, suc, _-_, _≤_}
 use mathlib.Core.List.{List}
 use Rattle.geometry.specs.declared.Rect.{Rect}
 use Rattle.geometry.specs.declared.Spot.{Spot}
 use Rattle.geometry.specs.declared.Sense.{Sense}
 use Rattle.geometry.specs.declared.Sense.the-variants.{Greatest, Least}
-use Rattle.geometry.specs.Layout.{coveredArea, window}
+use Rattle.geometry.specs.Layout.{coveredArea, windowBox}
 use Rattle.geometry.specs.Extreme.{spotAt, bestInRows}
 use Rattle.extremes.specs.declared.Extremes.{Extremes}
 
 -- the area of the window at (x, y)
 abbrev pub windowArea : List Rect → ℕ → ℕ → ℕ → ℕ
-windowArea rs w x y = coveredArea rs (window w x y)
+windowArea rs w x y = coveredArea rs (windowBox w x y)
 
 -- the number of window positions on an axis: 0 to n − w
 abbrev pub positions : ℕ → ℕ → ℕ
 positions n w = suc (n - w)
+
+-- (x, y) is a whole-number window position
+pub record Position (n w x y : ℕ) : Type 0 where
+  pub across : x ≤ n - w
+  pub down : y ≤ n - w
 
 -- the extreme over all positions, with its window of least y, then least x
 unfoldable pub extreme : Sense → List Rect → (n w : ℕ) → Spot

@@ -54,7 +54,7 @@ unfoldable pub candidates : Sense → (axis : ℕ) → List Rect → (n w : ℕ)
 candidates s axis rs n w = withSides (nearSide s axis) (farSide s axis) (n - w) w rs (withPosition (n - w) (n - w) (0 ∷ []))
 
 -- what 64 bits ask of a list of positions: none past 2^20
-pub record Small (l : List ℕ) : Type 0 where
+pub record SmallList (l : List ℕ) : Type 0 where
   pub small : (i : ℕ) → getD l i 0 ≤ 1048576
 
 -- ---- the search among them, in any order

@@ -16,7 +16,7 @@ ghost use Rattle.geometry.specs.Overlaps.{stripSum, StripSmall};
 ghost use Rattle.geometry.specs.Extreme.{spotAt};
 ghost use Rattle.extremes.specs.Exact.{windowArea, extreme, exactRun};
 ghost use Rattle.extremes.specs.Search.{nearSide, farSide, listed, withPosition, withEnd, withSides, candidates};
-ghost use Rattle.extremes.specs.Search.{earlier, leads, leading, leadingInRow, leadingInRows, Small};
+ghost use Rattle.extremes.specs.Search.{earlier, leads, leading, leadingInRow, leadingInRows, SmallList};
 
 // The exact run's answer: the greatest and the least window.
 pub struct Extremes {
@@ -198,7 +198,7 @@ fn try_window(strip: &[u64], w: u64, sense: Sense, x: u64, y: u64, best: Spot) -
 // Tries the windows at every listed x in the row whose strip is lent.
 fn search_strip(strip: &[u64], w: u64, sense: Sense, xs: &[u64], y: u64, best: Spot) -> Spot
     requires { ⌜ StripSmall (now strip) ⌝ }
-    requires { ⌜ Small (now xs) × (w ≤ 1048576) ⌝ }
+    requires { ⌜ SmallList (now xs) × (w ≤ 1048576) ⌝ }
     ensures { λ r. ⌜ r ≡ leadingInRow sense (λ x y. stripSum (now (strip .entry)) x (x + w)) (now (xs .entry)) y best ⌝ }
 {
     let mut best = best;
@@ -214,7 +214,7 @@ fn search_strip(strip: &[u64], w: u64, sense: Sense, xs: &[u64], y: u64, best: S
 // depends on y alone.
 fn search_row(rects: &[u64], w: u64, sense: Sense, xs: &[u64], y: u64, best: Spot) -> Spot
     requires { ⌜ Drawn (now rects) ⌝ }
-    requires { ⌜ Small (now xs) × (y ≤ 1048576) × (w ≤ 1048576) ⌝ }
+    requires { ⌜ SmallList (now xs) × (y ≤ 1048576) × (w ≤ 1048576) ⌝ }
     ensures { λ r. ⌜ r ≡ leadingInRow sense (windowArea (rectsOf (now (rects .entry))) w) (now (xs .entry)) y best ⌝ }
 {
     let mut strip = [0u64; 4096];
@@ -242,7 +242,7 @@ pub fn first_window(rects: &[u64], w: u64) -> Spot
 // Tries the windows at every listed x and y, after the one at (0, 0).
 fn search(rects: &[u64], w: u64, sense: Sense, xs: &[u64], ys: &[u64]) -> Spot
     requires { ⌜ Drawn (now rects) ⌝ }
-    requires { ⌜ Small (now xs) × Small (now ys) × (w ≤ 1048576) ⌝ }
+    requires { ⌜ SmallList (now xs) × SmallList (now ys) × (w ≤ 1048576) ⌝ }
     ensures { λ r. ⌜ r ≡ leadingInRows sense (windowArea (rectsOf (now (rects .entry))) w) (now (xs .entry)) (now (ys .entry)) (spotAt (windowArea (rectsOf (now (rects .entry))) w) 0 0) ⌝ }
 {
     let mut best = first_window(rects, w);

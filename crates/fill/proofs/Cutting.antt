@@ -14,7 +14,7 @@ use Rattle.geometry.specs.Layout.{rectsOf}
 use Rattle.geometry.specs.Overlaps.{rectAt}
 use Rattle.geometry.proofs.Tables.{rects-next, rects-end}
 use Rattle.fill.specs.Free.{grown, grownAll, freeArea, freeFrom, isEmpty, meeting, below, leftOf, rightOf, above, aroundFrom, Within}
-use Rattle.fill.specs.Limits.{Small}
+use Rattle.fill.specs.Limits.{SmallBox}
 use Rattle.fill.proofs.Grown.{free-small, free-none, free-apart, free-around}
 
 -- ---- whether a box has squares
@@ -109,11 +109,11 @@ pub same-box : {a b c d x1 y1 x2 y2 : ℕ} → a ≡ x1 → b ≡ y1 → c ≡ x
     _≡_ {A = Rect} (record { x1 = a; y1 = b; x2 = c; y2 = d }) (record { x1 = x1; y1 = y1; x2 = x2; y2 = y2 })
 same-box p q r s = λ i. record { x1 = p i; y1 = q i; x2 = r i; y2 = s i }
 
-pub part-small : (t : List ℕ) (g : ℕ) (b m : Rect) → Small t g b → m .x2 ≤ b .x2 → m .y2 ≤ b .y2 → Small t g m
+pub part-small : (t : List ℕ) (g : ℕ) (b m : Rect) → SmallBox t g b → m .x2 ≤ b .x2 → m .y2 ≤ b .y2 → SmallBox t g m
 part-small t g b m s h k = record { numbers = s .numbers; narrow = s .narrow; right = omega arith; high = omega arith }
 
 -- the four counts around a box add up below 2^42
-pub parts-fit : (g : ℕ) (t : List ℕ) (i : ℕ) (b m : Rect) (p q r s : ℕ) → Small t g b → Within m b → p ≡ freeFrom g t i (below b m) →
+pub parts-fit : (g : ℕ) (t : List ℕ) (i : ℕ) (b m : Rect) (p q r s : ℕ) → SmallBox t g b → Within m b → p ≡ freeFrom g t i (below b m) →
     q ≡ freeFrom g t i (leftOf b m) → r ≡ freeFrom g t i (rightOf b m) → s ≡ freeFrom g t i (above b m) → p + q + r + s ≤ 4398046511104
 parts-fit g t i b m p q r s small within ep eq er es =
     omega (

@@ -11,17 +11,18 @@ use lib.ListN.{length, getD, set, length-set}
 use lib.Seq.{getD-set-same, getD-set-other}
 use Rattle.geometry.specs.declared.Rect.{Rect}
 use Rattle.geometry.specs.Count.{boxSum}
-use Rattle.geometry.specs.Layout.{coveredArea}
+use Rattle.geometry.specs.Layout.{coveredArea, rectsOf}
 use Rattle.geometry.proofs.Counting.{Inside, box-cong, box-le, box-const}
 use Rattle.geometry.proofs.Overlaps.{area-small}
+use Rattle.fill.specs.declared.Plan.{Plan}
 use Rattle.fill.specs.declared.Bound.{Bound}
 use Rattle.fill.specs.declared.Failing.{Failing}
 use Rattle.fill.specs.declared.Failing.the-variants.{Nowhere, At}
 use Rattle.fill.specs.declared.Verdict.{Verdict}
 use Rattle.fill.specs.declared.Verdict.the-variants.{Broken}
 use Rattle.fill.specs.Eligible.{tile, fillableArea}
-use Rattle.fill.specs.Judge.{numberAt, load, standardTiles, bloatedTiles, shrunkTiles, failingAt, standardFailing, marginFailing, judged, verdictOf}
-use Rattle.fill.specs.Windows.{overTiles, underTiles, failingWithin, failingBy, searchBy, Loads, Filled}
+use Rattle.fill.specs.Judge.{TileBox, numberAt, load, standardTiles, bloatedTiles, shrunkTiles, failingAt, startsAcross, standardFailing, marginFailing, judged, verdictOf}
+use Rattle.fill.specs.Windows.{ruleOf, loadOf, tilesForUpper, tilesForLower, failingBy, searchBy, allTiles, Loads, Filled}
 use Rattle.fill.specs.Limits.{Tiled}
 use Rattle.fill.proofs.Grown.{fillable-small}
 use Rattle.fill.proofs.Starts.{below-or-last, rows-cong}
@@ -30,14 +31,14 @@ use Rattle.fill.proofs.Cutting.{same-box}
 -- ---- a table that is filled from the front
 
 pub filled-start : (f : ℕ → ℕ) (l : List ℕ) → Filled f l l 0
-filled-start f l = record { size = refl; set = λ k h. absurd (omega arith); kept = λ k h. refl }
+filled-start f l = record { size = refl; set = λ k h. absurd (omega arith); rest = λ k h. refl }
 
 pub filled-next : (f : ℕ → ℕ) (l m : List ℕ) (t v : ℕ) → Filled f l m t → t < length m → v ≡ f t → Filled f l (set m t v) (t + 1)
 filled-next f l m t v s h e =
     record {
       size = length-set m t v ∙ s .size;
       set = λ k u. go k (below-or-last k t (omega arith));
-      kept = λ k u. getD-set-other m t k v 0 (λ q. omega arith) ∙ s .kept k (omega arith);
+      rest = λ k u. getD-set-other m t k v 0 (λ q. omega arith) ∙ s .rest k (omega arith);
     }
   where
     go : (k : ℕ) → (k < t) ⊎ (k ≡ t) → getD (set m t v) k 0 ≡ f k
@@ -46,67 +47,72 @@ filled-next f l m t v s h e =
 
 pub filled-end : (f : ℕ → ℕ) (l m : List ℕ) (t n : ℕ) → Filled f l m t → t ≤ n → n ≤ t → Filled f l m n
 filled-end f l m t n s h k =
-    record { size = s .size; set = λ i u. s .set i (omega arith); kept = λ i u. s .kept i (omega arith) }
+    record { size = s .size; set = λ i u. s .set i (omega arith); rest = λ i u. s .rest i (omega arith) }
 
 -- ---- the place of tile number t
 
-module _ (n d t : ℕ) (h : t < n * n) where
-  pub some : 0 < n
-  some = go n h
+module _ (across side t : ℕ) (h : t < across * across) where
+  pub some : 0 < across
+  some = go across h
     where
       go : (k : ℕ) → t < k * k → 0 < k
       go zero u = absurd (omega arith)
       go (suc k) u = omega arith
 
-  column-small : t % n < n
+  column-small : t % across < across
   column-small = mod-lt t some
 
-  row-small : t / n < n
-  row-small = div-lt-iff-lt-mul {k = n} some .1 h
+  row-small : t / across < across
+  row-small = div-lt-iff-lt-mul {k = across} some .1 h
 
-  pub tile-inside : n * d ≤ 1048576 → (suc (t % n) * d ≤ 1048576) × (suc (t / n) * d ≤ 1048576)
-  tile-inside s = (omega (arith, mul-le-mul-right d column-small), omega (arith, mul-le-mul-right d row-small))
+  pub tile-inside : across * side ≤ 1048576 → (suc (t % across) * side ≤ 1048576) × (suc (t / across) * side ≤ 1048576)
+  tile-inside s = (omega (arith, mul-le-mul-right side column-small), omega (arith, mul-le-mul-right side row-small))
 
-  pub side-small : n * d ≤ 1048576 → d ≤ 1048576
-  side-small s = omega (arith, mul-le-mul-right d some)
+  pub side-small : across * side ≤ 1048576 → side ≤ 1048576
+  side-small s = omega (arith, mul-le-mul-right side some)
 
--- a tile's side
-tile-side : (d i : ℕ) → suc i * d - i * d ≡ d
-tile-side d i = omega (arith, suc-mul i d)
+-- a tile's width
+tile-width : (side i : ℕ) → suc i * side - i * side ≡ side
+tile-width side i = omega (arith, suc-mul i side)
 
-tile-small : (rs : List Rect) (d i j : ℕ) → coveredArea rs (tile d i j) ≤ d * d
-tile-small rs d i j = omega (arith, area-small rs (tile d i j), ap₂ _*_ (tile-side d i) (tile-side d j))
+tile-small : (rs : List Rect) (side i j : ℕ) → coveredArea rs (tile side i j) ≤ side * side
+tile-small rs side i j = omega (arith, area-small rs (tile side i j), ap₂ _*_ (tile-width side i) (tile-width side j))
 
 -- a tile takes no more fill than its area, so an amount that fits its tile meets `Tiled`
-pub tile-fillable : (g : ℕ) (rs : List Rect) (d i j : ℕ) → fillableArea g rs (tile d i j) ≤ d * d
-tile-fillable g rs d i j = omega (arith, fillable-small g rs (tile d i j), ap₂ _*_ (tile-side d i) (tile-side d j))
+pub tile-fillable : (gap : ℕ) (rs : List Rect) (side i j : ℕ) → fillableArea gap rs (tile side i j) ≤ side * side
+tile-fillable gap rs side i j = omega (arith, fillable-small gap rs (tile side i j), ap₂ _*_ (tile-width side i) (tile-width side j))
 
-pub load-formed : (rs : List Rect) (amounts : List ℕ) (n d t v : ℕ) (b : Rect) → b ≡ tile d (t % n) (t / n) → v ≡ coveredArea rs b →
-    v + getD amounts t 0 ≡ load rs amounts n d (t % n) (t / n)
-load-formed rs amounts n d t v b e k =
-    ap₂ _+_ (k ∙ ap (coveredArea rs) e) (ap (λ (p : ℕ). getD amounts p 0) (sym (div-add-mod' t n)))
+module _ (rects amounts : List ℕ) (plan : Plan) (t v : ℕ) (b : Rect) (e : b ≡ tile (plan .side) (t % plan .across) (t / plan .across))
+    (k : v ≡ coveredArea (rectsOf rects) b) where
+  pub load-formed : v + getD amounts t 0 ≡ loadOf (rectsOf rects) amounts plan t
+  load-formed = ap₂ _+_ (k ∙ ap (coveredArea (rectsOf rects)) e) (ap (λ (p : ℕ). getD amounts p 0) (sym (div-add-mod' t (plan .across))))
 
-pub load-fits : (rs : List Rect) (amounts : List ℕ) (n d t v : ℕ) (b : Rect) → Tiled amounts n d → t < n * n → b ≡ tile d (t % n) (t / n) →
-    v ≡ coveredArea rs b → v + getD amounts t 0 ≤ 2199023255552
-load-fits rs amounts n d t v b s h e k =
-    omega (
-      arith,
-      k ∙ ap (coveredArea rs) e,
-      tile-small rs d (t % n) (t / n),
-      s .room t,
-      mul-le-mul (side-small n d t h (s .side)) (side-small n d t h (s .side)),
-    )
+  pub load-fits : Tiled rects amounts plan → t < plan .across * plan .across → v + getD amounts t 0 ≤ 2199023255552
+  load-fits s h =
+      omega (
+        arith,
+        k ∙ ap (coveredArea (rectsOf rects)) e,
+        tile-small (rectsOf rects) (plan .side) (t % plan .across) (t / plan .across),
+        s .room t,
+        mul-le-mul (side-small (plan .across) (plan .side) t h (s .layout)) (side-small (plan .across) (plan .side) t h (s .layout)),
+      )
 
 -- ---- the filled table
 
-module _ (rs : List Rect) (amounts : List ℕ) (n d : ℕ) (l m : List ℕ)
-    (s : Filled (λ t. load rs amounts n d (t % n) (t / n)) l m (n * n)) where
-  table-load : (i j : ℕ) → i < n → j < n → numberAt m n i j ≡ load rs amounts n d i j
-  table-load i j h k =
-      s .set (j * n + i) (digits-lt {q = j} {m = n} {r = i} {c = n} k h)
-      ∙ ap₂ (load rs amounts n d) (digits-mod j {m = n} {r = i} h) (digits-div j {m = n} {r = i} h)
+module _ (rects amounts : List ℕ) (plan : Plan) (before table : List ℕ)
+    (s : Filled (loadOf (rectsOf rects) amounts plan) before table (plan .across * plan .across)) where
+  abbrev across : ℕ
+  across = plan .across
 
-  pub table-light : Tiled amounts n d → n * n ≤ length l → Loads m n
+  abbrev loads : ℕ → ℕ → ℕ
+  loads = load (rectsOf rects) amounts plan
+
+  table-load : (i j : ℕ) → i < across → j < across → numberAt table across i j ≡ loads i j
+  table-load i j h k =
+      s .set (j * across + i) (digits-lt {q = j} {m = across} {r = i} {c = across} k h)
+      ∙ ap₂ loads (digits-mod j {m = across} {r = i} h) (digits-div j {m = across} {r = i} h)
+
+  pub table-light : Tiled rects amounts plan → across * across ≤ length before → Loads table across
   table-light t h =
       record {
         few = t .few;
@@ -114,57 +120,58 @@ module _ (rs : List Rect) (amounts : List ℕ) (n d : ℕ) (l m : List ℕ)
         light =
             omega (
               arith,
-              box-le (record { x1 = 0; y1 = 0; x2 = n; y2 = n }) (numberAt m n) (λ x y. 2 * (d * d)) (λ x y i. small x y i),
-              box-const (record { x1 = 0; y1 = 0; x2 = n; y2 = n }) (2 * (d * d)) ∙ ap (λ (v : ℕ). v * (v * (2 * (d * d)))) (sub-zero n),
-              mul-le-mul (t .side) (t .side),
+              box-le (allTiles across) (numberAt table across) (λ x y. 2 * (plan .side * plan .side)) (λ x y i. small x y i),
+              box-const (allTiles across) (2 * (plan .side * plan .side)) ∙ ap (λ (v : ℕ). v * (v * (2 * (plan .side * plan .side)))) (sub-zero across),
+              mul-le-mul (t .layout) (t .layout),
             );
       }
     where
-      small : (x y : ℕ) → Inside (record { x1 = 0; y1 = 0; x2 = n; y2 = n }) x y → numberAt m n x y ≤ 2 * (d * d)
-      small x y i = omega (arith, table-load x y (i .right) (i .high), tile-small rs d x y, t .room (y * n + x))
+      small : (x y : ℕ) → Inside (allTiles across) x y → numberAt table across x y ≤ 2 * (plan .side * plan .side)
+      small x y i = omega (arith, table-load x y (i .right) (i .high), tile-small (rectsOf rects) (plan .side) x y, t .room (y * across + x))
 
   -- ---- the search over the table, and the verdict's definition
 
-  box-load : (b : Rect) → b .x2 ≤ n → b .y2 ≤ n → boxSum b (numberAt m n) ≡ boxSum b (load rs amounts n d)
-  box-load b h k = box-cong b (numberAt m n) (load rs amounts n d) (λ x y i. table-load x y (omega arith) (omega arith))
+  box-load : (b : TileBox) → b .x2 ≤ across → b .y2 ≤ across → boxSum b (numberAt table across) ≡ boxSum b loads
+  box-load b h k = box-cong b (numberAt table across) loads (λ x y i. table-load x y (omega arith) (omega arith))
 
-  start-same : (r low high margin i j : ℕ) (a b : Rect) → overTiles n r margin i j ≡ a → underTiles r margin i j ≡ b → i + r ≤ n → j + r ≤ n →
-      failingBy (numberAt m n) n r low high margin i j ≡ failingWithin low high i j (boxSum a (load rs amounts n d)) (boxSum b (load rs amounts n d))
-  start-same r low high margin i j a b e f h k =
-      ap₂ (failingWithin low high i j)
-      (box-load (overTiles n r margin i j) (omega arith) (omega arith) ∙ ap (λ (q : Rect). boxSum q (load rs amounts n d)) e)
-      (box-load (underTiles r margin i j) h k ∙ ap (λ (q : Rect). boxSum q (load rs amounts n d)) f)
+  start-same : (margin i j : ℕ) (a b : TileBox) → tilesForUpper (ruleOf plan) margin i j ≡ a → tilesForLower (ruleOf plan) margin i j ≡ b →
+      i + plan .cut ≤ across → j + plan .cut ≤ across → failingBy (numberAt table across) (ruleOf plan) margin i j ≡ failingAt plan i j (boxSum a loads) (boxSum b loads)
+  start-same margin i j a b e f h k =
+      ap₂ (failingAt plan i j)
+      (box-load (tilesForUpper (ruleOf plan) margin i j) (omega arith) (omega arith) ∙ ap (λ (q : TileBox). boxSum q loads) e)
+      (box-load (tilesForLower (ruleOf plan) margin i j) h k ∙ ap (λ (q : TileBox). boxSum q loads) f)
 
-  whole : (i r : ℕ) → i + r ≤ n → min (i + r + 0) n ≡ i + r
-  whole i r h = omega arith
+  whole : (i : ℕ) → i + plan .cut ≤ across → min (i + plan .cut + 0) across ≡ i + plan .cut
+  whole i h = omega arith
 
-  more : (i r : ℕ) → min (i + r + 1) n ≡ min (suc (i + r)) n
-  more i r = ap (λ (k : ℕ). min k n) (add-one (i + r))
+  more : (i : ℕ) → min (i + plan .cut + 1) across ≡ min (suc (i + plan .cut)) across
+  more i = ap (λ (k : ℕ). min k across) (add-one (i + plan .cut))
 
-  pub table-verdict : (r l u w : ℕ) → r ≤ n →
-      judged (searchBy (numberAt m n) n r (l * w * w) (u * w * w) 0) (searchBy (numberAt m n) n r (l * w * w) (u * w * w) 1) ≡ verdictOf rs amounts n r d l u w
+  pub table-verdict : plan .cut ≤ across →
+      judged (searchBy (numberAt table across) (ruleOf plan) 0) (searchBy (numberAt table across) (ruleOf plan) 1) ≡ verdictOf (rectsOf rects) amounts plan
   unfolding standardFailing marginFailing
-  table-verdict r l u w h =
+  table-verdict h =
       ap₂ judged
-      (rows-cong (failingBy (numberAt m n) n r (l * w * w) (u * w * w) 0)
-      (λ i j. let s = boxSum (standardTiles r i j) (load rs amounts n d) in failingAt l u w i j s s) (suc (n - r)) (suc (n - r))
+      (rows-cong (failingBy (numberAt table across) (ruleOf plan) 0)
+      (λ i j. let s = boxSum (standardTiles plan i j) loads in failingAt plan i j s s) (startsAcross plan) (startsAcross plan)
       (λ i j p q.
-      start-same r (l * w * w) (u * w * w) 0 i j (standardTiles r i j) (standardTiles r i j)
-      (same-box refl refl (whole i r (omega arith)) (whole j r (omega arith))) (same-box (add-zero i) (add-zero j) refl refl) (omega arith) (omega arith)))
-      (rows-cong (failingBy (numberAt m n) n r (l * w * w) (u * w * w) 1)
-      (λ i j. failingAt l u w i j (boxSum (bloatedTiles n r i j) (load rs amounts n d)) (boxSum (shrunkTiles r i j) (load rs amounts n d)))
-      (suc (n - r)) (suc (n - r))
+      start-same 0 i j (standardTiles plan i j) (standardTiles plan i j)
+      (same-box refl refl (whole i (omega arith)) (whole j (omega arith))) (same-box (add-zero i) (add-zero j) refl refl) (omega arith) (omega arith)))
+      (rows-cong (failingBy (numberAt table across) (ruleOf plan) 1)
+      (λ i j. failingAt plan i j (boxSum (bloatedTiles plan i j) loads) (boxSum (shrunkTiles plan i j) loads))
+      (startsAcross plan) (startsAcross plan)
       (λ i j p q.
-      start-same r (l * w * w) (u * w * w) 1 i j (bloatedTiles n r i j) (shrunkTiles r i j) (same-box refl refl (more i r) (more j r))
+      start-same 1 i j (bloatedTiles plan i j) (shrunkTiles plan i j) (same-box refl refl (more i) (more j))
       (same-box (add-one i) (add-one j) refl refl) (omega arith) (omega arith)))
 
 -- ---- 64 bits
 
-pub bound-fits : (b w : ℕ) → b ≤ 10000 → w ≤ 1048576 → (b * w ≤ 10485760000) × (b * w * w ≤ 10995116277760000)
-bound-fits b w h k = (mul-le-mul h k, mul-le-mul (mul-le-mul h k) k)
+pub bound-fits : (bound window : ℕ) → bound ≤ 10000 → window ≤ 1048576 →
+    (bound * window ≤ 10485760000) × (bound * window * window ≤ 10995116277760000)
+bound-fits bound window h k = (mul-le-mul h k, mul-le-mul (mul-le-mul h k) k)
 
-pub tiles-few : (n : ℕ) → n ≤ 64 → n * n ≤ 4096
-tiles-few n h = mul-le-mul h h
+pub tiles-few : (across : ℕ) → across ≤ 64 → across * across ≤ 4096
+tiles-few across h = mul-le-mul h h
 
 -- ---- the two searches together
 

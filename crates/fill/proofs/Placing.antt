@@ -12,6 +12,7 @@ use borrow.Author.Tests.{lt-ltb, le-ltb}
 use Rattle.geometry.specs.declared.Rect.{Rect}
 use Rattle.geometry.specs.Count.{sum, boxSum, one-if}
 use Rattle.geometry.proofs.Counting.{le-or-lt, sum-cong}
+use Rattle.fill.specs.declared.Plan.{Plan}
 use Rattle.fill.specs.Eligible.{eligible, tile, fillableArea}
 use Rattle.fill.specs.Judge.{numberAt}
 use Rattle.fill.specs.Placement.{Placement, chosenArea}
@@ -50,43 +51,45 @@ tile-sum d i j f = ap₂ (λ (a b : ℕ). sum a (λ k. sum b (λ m. f (i * d + m
     side v = omega (arith, suc-mul v d)
 
 -- the first squares of each tile, row by row, as many as its amount
-abbrev firsts : (ℕ → ℕ → Bool) → List ℕ → (n d : ℕ) → ℕ → ℕ → Bool
-firsts e amounts n d x y =
-    e x y && ltb (rank d (λ m k. e (x / d * d + m) (y / d * d + k)) (x % d) (y % d)) (numberAt amounts n (x / d) (y / d))
+abbrev firsts : (ℕ → ℕ → Bool) → List ℕ → (across side : ℕ) → ℕ → ℕ → Bool
+firsts e amounts across side x y =
+    e x y && ltb (rank side (λ m k. e (x / side * side + m) (y / side * side + k)) (x % side) (y % side)) (numberAt amounts across (x / side) (y / side))
 
 both : (a b : Bool) → T (a && b) → T a × T b
 both true true h = (tt, tt)
 
-module _ (g : ℕ) (rs : List Rect) (amounts : List ℕ) (n d : ℕ)
-    (fit : (i j : ℕ) → i < n → j < n → numberAt amounts n i j ≤ fillableArea g rs (tile d i j)) where
+module _ (gap : ℕ) (rs : List Rect) (amounts : List ℕ) (across side : ℕ)
+    (fit : (i j : ℕ) → i < across → j < across → numberAt amounts across i j ≤ fillableArea gap rs (tile side i j)) where
   chosen : ℕ → ℕ → Bool
-  chosen = firsts (eligible g rs) amounts n d
+  chosen = firsts (eligible gap rs) amounts across side
 
-  exactly : (i j : ℕ) → i < n → j < n → chosenArea chosen (tile d i j) ≡ numberAt amounts n i j
+  exactly : (i j : ℕ) → i < across → j < across → chosenArea chosen (tile side i j) ≡ numberAt amounts across i j
   unfolding chosen
   exactly i j hi hj =
-      tile-sum d i j (λ x y. one-if (chosen x y))
-      ∙ sum-cong d (λ k. sum d (λ m. one-if (chosen (i * d + m) (j * d + k)))) (λ k. sum d (λ m. one-if (e m k && ltb (rank d e m k) p)))
-      (λ k hk. sum-cong d (λ m. one-if (chosen (i * d + m) (j * d + k))) (λ m. one-if (e m k && ltb (rank d e m k) p)) (λ m hm. local m k hm hk))
-      ∙ rows-taken d d p e
-      ∙ ap (λ (s : ℕ). min p s) (sym (tile-sum d i j (λ x y. one-if (eligible g rs x y))))
+      tile-sum side i j (λ x y. one-if (chosen x y))
+      ∙ sum-cong side (λ k. sum side (λ m. one-if (chosen (i * side + m) (j * side + k)))) (λ k. sum side (λ m. one-if (e m k && ltb (rank side e m k) p)))
+      (λ k hk. sum-cong side (λ m. one-if (chosen (i * side + m) (j * side + k))) (λ m. one-if (e m k && ltb (rank side e m k) p)) (λ m hm. local m k hm hk))
+      ∙ rows-taken side side p e
+      ∙ ap (λ (s : ℕ). min p s) (sym (tile-sum side i j (λ x y. one-if (eligible gap rs x y))))
       ∙ min-eq-left (fit i j hi hj)
     where
       e : ℕ → ℕ → Bool
-      e m k = eligible g rs (i * d + m) (j * d + k)
+      e m k = eligible gap rs (i * side + m) (j * side + k)
 
       p : ℕ
-      p = numberAt amounts n i j
+      p = numberAt amounts across i j
 
-      local : (m k : ℕ) → m < d → k < d → one-if (chosen (i * d + m) (j * d + k)) ≡ one-if (e m k && ltb (rank d e m k) p)
+      local : (m k : ℕ) → m < side → k < side → one-if (chosen (i * side + m) (j * side + k)) ≡ one-if (e m k && ltb (rank side e m k) p)
       local m k hm hk = simp (digits-div i hm, digits-div j hk, digits-mod i hm, digits-mod j hk)
 
-  pub placement : (chosen : ℕ → ℕ → Bool) × Placement g rs amounts n d chosen
+module _ (gap : ℕ) (rs : List Rect) (amounts : List ℕ) (plan : Plan)
+    (fit : (i j : ℕ) → i < plan .across → j < plan .across → numberAt amounts (plan .across) i j ≤ fillableArea gap rs (tile (plan .side) i j)) where
+  pub placement : (chosen : ℕ → ℕ → Bool) × Placement gap rs amounts plan chosen
   unfolding chosen
   placement = (
-    chosen,
+    chosen gap rs amounts (plan .across) (plan .side) fit,
     record {
-      allowed = λ x y h. both (eligible g rs x y) _ h .0;
-      exact = exactly;
+      allowed = λ x y h. both (eligible gap rs x y) _ h .0;
+      stated = exactly gap rs amounts (plan .across) (plan .side) fit;
     },
   )

@@ -8,14 +8,14 @@ use native.Mathlib.Numerals.{add-one}
 use native.Mathlib.Omega.{arith}
 use lib.Arith.{digits-lt}
 use borrow.Author.Tests.{le-leb, lt-leb}
-use Rattle.geometry.specs.declared.Rect.{Rect}
 use Rattle.geometry.specs.Count.{span, boxSum}
 use Rattle.geometry.proofs.Counting.{span-split, span-one, span-empty, box-within}
+use Rattle.fill.specs.declared.judging.Rule.{Rule}
 use Rattle.fill.specs.declared.Bound.the-variants.{Over, Under}
 use Rattle.fill.specs.declared.Failing.{Failing}
 use Rattle.fill.specs.declared.Failing.the-variants.{Nowhere, At}
-use Rattle.fill.specs.Windows.{overTiles, underTiles, failingWithin, failingBy, isFound, Loads}
-use Rattle.fill.specs.Judge.{numberAt}
+use Rattle.fill.specs.Windows.{tilesForUpper, tilesForLower, failingWithin, failingBy, isFound, allTiles, Loads, IsTile, InRow, InLayout, IsStart}
+use Rattle.fill.specs.Judge.{TileBox, numberAt}
 use Rattle.fill.proofs.Starts.{firstOf, none-more, found-more}
 
 -- ---- a sum over a span, part of it formed: `total` is what the numbers before i add
@@ -32,19 +32,20 @@ span-room f a b total i v m e h k l = omega (arith, span-next f a b total i v e 
 
 -- ---- a table of loads
 
-pub place-within : (n i j m : ℕ) → i < n → j < n → n * n ≤ m → j * n + i < m
-place-within n i j m h k l = omega (arith, digits-lt {q = j} {m = n} {r = i} {c = n} k h)
+pub place-within : (across i j m : ℕ) → IsTile across i j → across * across ≤ m → j * across + i < m
+place-within across i j m t l = omega (arith, digits-lt {q = j} {m = across} {r = i} {c = across} (t .row) (t .column))
 
-pub box-light : (table : List ℕ) (n : ℕ) (b : Rect) → Loads table n → b .x2 ≤ n → b .y2 ≤ n → boxSum b (numberAt table n) ≤ 1125899906842624
-box-light table n b s h k =
-    le-trans (box-within b (record { x1 = 0; y1 = 0; x2 = n; y2 = n }) (numberAt table n) (omega arith) (omega arith) h k) (s .light)
+pub box-light : (table : List ℕ) (across : ℕ) (b : TileBox) → Loads table across → InLayout across b → boxSum b (numberAt table across) ≤ 1125899906842624
+box-light table across b s h =
+    le-trans (box-within b (allTiles across) (numberAt table across) (omega arith) (omega arith) (h .right) (h .high)) (s .light)
 
-pub row-light : (table : List ℕ) (n j x1 x2 : ℕ) → Loads table n → x2 ≤ n → j < n → span x1 x2 (λ i. numberAt table n i j) ≤ 1125899906842624
-row-light table n j x1 x2 s h k =
+pub row-light : (table : List ℕ) (across j x1 x2 : ℕ) → Loads table across → InRow across j x2 →
+    span x1 x2 (λ i. numberAt table across i j) ≤ 1125899906842624
+row-light table across j x1 x2 s h =
     omega (
       arith,
-      box-light table n (record { x1 = x1; y1 = j; x2 = x2; y2 = suc j }) s h k,
-      span-one j (λ y. span x1 x2 (λ i. numberAt table n i y)),
+      box-light table across (record { x1 = x1; y1 = j; x2 = x2; y2 = suc j }) s (record { right = h .columns; high = h .row }),
+      span-one j (λ y. span x1 x2 (λ i. numberAt table across i y)),
     )
 
 -- ---- the search
@@ -82,28 +83,31 @@ module _ (f : ℕ → Failing) (last i : ℕ) (s : Searched f last i) where
 
 -- ---- the tests of a start
 
-pub fails-over : (low high i j over under : ℕ) → high < 10000 * over → At Over i j ≡ failingWithin low high i j over under
-fails-over low high i j over under h = rw (failingWithin, lt-leb (10000 * over) high h)
+module _ (rule : Rule) (i j forUpper forLower : ℕ) where
+  pub fails-over : rule .high < 10000 * forUpper → At Over i j ≡ failingWithin rule i j forUpper forLower
+  fails-over h = rw (failingWithin, lt-leb (10000 * forUpper) (rule .high) h)
 
-pub fails-under : (low high i j over under : ℕ) → 10000 * over ≤ high → 10000 * under < low → At Under i j ≡ failingWithin low high i j over under
-fails-under low high i j over under h k = rw (failingWithin, le-leb (10000 * over) high h, lt-leb low (10000 * under) k)
+  pub fails-under : 10000 * forUpper ≤ rule .high → 10000 * forLower < rule .low → At Under i j ≡ failingWithin rule i j forUpper forLower
+  fails-under h k = rw (failingWithin, le-leb (10000 * forUpper) (rule .high) h, lt-leb (rule .low) (10000 * forLower) k)
 
-pub fails-none : (low high i j over under : ℕ) → 10000 * over ≤ high → low ≤ 10000 * under → Nowhere ≡ failingWithin low high i j over under
-fails-none low high i j over under h k = rw (failingWithin, le-leb (10000 * over) high h, le-leb low (10000 * under) k)
+  pub fails-none : 10000 * forUpper ≤ rule .high → rule .low ≤ 10000 * forLower → Nowhere ≡ failingWithin rule i j forUpper forLower
+  fails-none h k = rw (failingWithin, le-leb (10000 * forUpper) (rule .high) h, le-leb (rule .low) (10000 * forLower) k)
 
 -- ---- the tiles of a start
 
-pub over-inside : (n r margin i j : ℕ) (b : Rect) → b ≡ overTiles n r margin i j → (b .x2 ≤ n) × (b .y2 ≤ n)
-over-inside n r margin i j b e = (omega (arith, ap (λ (q : Rect). q .x2) e), omega (arith, ap (λ (q : Rect). q .y2) e))
+module _ (rule : Rule) (margin i j : ℕ) where
+  pub upper-inside : (b : TileBox) → b ≡ tilesForUpper rule margin i j → InLayout (rule .across) b
+  upper-inside b e = record { right = omega (arith, ap (λ (q : TileBox). q .x2) e); high = omega (arith, ap (λ (q : TileBox). q .y2) e) }
 
-pub under-inside : (n r margin i j : ℕ) (b : Rect) → b ≡ underTiles r margin i j → i + r ≤ n → j + r ≤ n → (b .x2 ≤ n) × (b .y2 ≤ n)
-under-inside n r margin i j b e h k = (omega (arith, ap (λ (q : Rect). q .x2) e), omega (arith, ap (λ (q : Rect). q .y2) e))
+  pub lower-inside : (b : TileBox) → b ≡ tilesForLower rule margin i j → IsStart rule margin i j → InLayout (rule .across) b
+  lower-inside b e s = record { right = omega (arith, ap (λ (q : TileBox). q .x2) e); high = omega (arith, ap (λ (q : TileBox). q .y2) e) }
 
-pub load-light : (table : List ℕ) (n : ℕ) (b : Rect) (v : ℕ) → Loads table n → v ≡ boxSum b (numberAt table n) → (b .x2 ≤ n) × (b .y2 ≤ n) → v ≤ 1125899906842624
-load-light table n b v s e h = omega (arith, box-light table n b s (h .0) (h .1))
+  pub start-judged : (load : ℕ → ℕ → ℕ) (forUpper forLower : ℕ) (a b : TileBox) (v : Failing) → a ≡ tilesForUpper rule margin i j →
+      b ≡ tilesForLower rule margin i j → forUpper ≡ boxSum a load → forLower ≡ boxSum b load → v ≡ failingWithin rule i j forUpper forLower →
+      v ≡ failingBy load rule margin i j
+  start-judged load forUpper forLower a b v ea eb eo eu ev =
+      ev ∙ ap₂ (failingWithin rule i j) (eo ∙ ap (λ (q : TileBox). boxSum q load) ea) (eu ∙ ap (λ (q : TileBox). boxSum q load) eb)
 
-pub start-judged : (load : ℕ → ℕ → ℕ) (n r low high margin i j over under : ℕ) (a b : Rect) (v : Failing) → a ≡ overTiles n r margin i j →
-    b ≡ underTiles r margin i j → over ≡ boxSum a load → under ≡ boxSum b load → v ≡ failingWithin low high i j over under →
-    v ≡ failingBy load n r low high margin i j
-start-judged load n r low high margin i j over under a b v ea eb eo eu ev =
-    ev ∙ ap₂ (failingWithin low high i j) (eo ∙ ap (λ (q : Rect). boxSum q load) ea) (eu ∙ ap (λ (q : Rect). boxSum q load) eb)
+pub load-light : (table : List ℕ) (across : ℕ) (b : TileBox) (v : ℕ) → Loads table across → v ≡ boxSum b (numberAt table across) → InLayout across b →
+    v ≤ 1125899906842624
+load-light table across b v s e h = omega (arith, box-light table across b s h)

@@ -1,17 +1,18 @@
 -- Document 01, "Proved cases", rows A5 to A8: fillable areas and verdicts. The unit's proofs/Cases.antt shows that they follow.
 use Prim.Native.Nat.{ℕ}
 use mathlib.Core.List.{List, [], _∷_}
-use Rattle.geometry.specs.Cases.{Row, row, shapesA}
+use Rattle.geometry.specs.Row.{Row, row}
+use Rattle.geometry.specs.JobA.{shapesA}
 use Rattle.fill.specs.Eligible.{fillableArea, tile}
 use Rattle.fill.specs.Judge.{verdictOf, verdictNumbers}
 
--- job A has four tiles a side, of side 2, and two units of fill in tile (0, 0)
+-- job A has four tiles a side, and two units of fill in tile (0, 0)
 abbrev pub amountsA : List ℕ
 amountsA = 2 ∷ 0 ∷ 0 ∷ 0 ∷ 0 ∷ 0 ∷ 0 ∷ 0 ∷ 0 ∷ 0 ∷ 0 ∷ 0 ∷ 0 ∷ 0 ∷ 0 ∷ 0 ∷ []
 
 -- the verdict on job A under the upper bound u
 abbrev pub verdictA : ℕ → List ℕ
-verdictA u = verdictNumbers (verdictOf shapesA amountsA 4 2 2 0 u 4)
+verdictA u = verdictNumbers (verdictOf shapesA amountsA (record { across = 4; cut = 2; side = 2; window = 4; lower = 0; upper = u }))
 
 abbrev pub fillRows : List Row
 fillRows =

@@ -1,4 +1,5 @@
--- Document 01, "Fillable area and verdict": tile loads, the sums of tile windows and the verdict. A layout has n tiles a side, a window r.
+-- Document 01, "Fillable area and verdict": tile loads, the sums of tile windows and the verdict. A `Plan`, of src/lib.rt, has the
+-- tiles across the layout and across a window, their side, the window's side and the bounds.
 use Prim.Native.Nat.{ℕ, zero, suc, _+_, _-_, _*_, min}
 use mathlib.Core.Bool.{Bool, true, false}
 use mathlib.Core.List.{List, [], _∷_}
@@ -7,6 +8,7 @@ use lib.ListN.{getD}
 use Rattle.geometry.specs.declared.Rect.{Rect}
 use Rattle.geometry.specs.Count.{boxSum}
 use Rattle.geometry.specs.Layout.{coveredArea}
+use Rattle.fill.specs.declared.Plan.{Plan}
 use Rattle.fill.specs.declared.Bound.{Bound}
 use Rattle.fill.specs.declared.Bound.the-variants.{Over, Under}
 use Rattle.fill.specs.declared.Failing.{Failing}
@@ -15,39 +17,43 @@ use Rattle.fill.specs.declared.Verdict.{Verdict}
 use Rattle.fill.specs.declared.Verdict.the-variants.{Safe, Broken, Undecided}
 use Rattle.fill.specs.Eligible.{tile}
 
--- where tile (i, j) stands in a table with one number for each tile, row by row, n to a row
-abbrev pub tileIndex : (n i j : ℕ) → ℕ
-tileIndex n i j = j * n + i
+-- a box that counts in tiles: the tiles from column x1 to before x2 and from row y1 to before y2
+abbrev pub TileBox : Type 0
+TileBox = Rect
+
+-- where tile (i, j) stands in a table with one number for each tile, row by row, `across` to a row
+abbrev pub tileIndex : (across i j : ℕ) → ℕ
+tileIndex across i j = j * across + i
 
 -- the number of tile (i, j) in such a table: its stated amount, 0 where none is given, or its load
-abbrev pub numberAt : List ℕ → (n i j : ℕ) → ℕ
-numberAt table n i j = getD table (tileIndex n i j) 0
+abbrev pub numberAt : List ℕ → (across i j : ℕ) → ℕ
+numberAt table across i j = getD table (tileIndex across i j) 0
 
--- a tile's load: its covered area plus its amount; d is the tile side
-abbrev pub load : List Rect → List ℕ → (n d i j : ℕ) → ℕ
-load rs amounts n d i j = coveredArea rs (tile d i j) + numberAt amounts n i j
+-- a tile's load: its covered area plus its amount
+abbrev pub load : List Rect → List ℕ → Plan → (i j : ℕ) → ℕ
+load rs amounts plan i j = coveredArea rs (tile (plan .side) i j) + numberAt amounts (plan .across) i j
 
 -- the tiles of the standard window at start (i, j), of the bloated one, cut off at the edge, and of the shrunk one
-abbrev pub standardTiles : (r i j : ℕ) → Rect
-standardTiles r i j = record { x1 = i; y1 = j; x2 = i + r; y2 = j + r }
+abbrev pub standardTiles : Plan → (i j : ℕ) → TileBox
+standardTiles plan i j = record { x1 = i; y1 = j; x2 = i + plan .cut; y2 = j + plan .cut }
 
-abbrev pub bloatedTiles : (n r i j : ℕ) → Rect
-bloatedTiles n r i j = record { x1 = i; y1 = j; x2 = min (suc (i + r)) n; y2 = min (suc (j + r)) n }
+abbrev pub bloatedTiles : Plan → (i j : ℕ) → TileBox
+bloatedTiles plan i j = record { x1 = i; y1 = j; x2 = min (suc (i + plan .cut)) (plan .across); y2 = min (suc (j + plan .cut)) (plan .across) }
 
-abbrev pub shrunkTiles : (r i j : ℕ) → Rect
-shrunkTiles r i j = record { x1 = suc i; y1 = suc j; x2 = i + r; y2 = j + r }
+abbrev pub shrunkTiles : Plan → (i j : ℕ) → TileBox
+shrunkTiles plan i j = record { x1 = suc i; y1 = suc j; x2 = i + plan .cut; y2 = j + plan .cut }
 
--- a sum keeps the upper bound u, or the lower bound l, ten-thousandths of w × w
-abbrev pub keepsUpper : (u w total : ℕ) → Bool
-keepsUpper u w total = leb (10000 * total) (u * w * w)
+-- a sum keeps the upper bound U, or the lower bound L, ten-thousandths of W × W
+abbrev pub keepsUpper : Plan → (total : ℕ) → Bool
+keepsUpper plan total = leb (10000 * total) (plan .upper * plan .window * plan .window)
 
-abbrev pub keepsLower : (l w total : ℕ) → Bool
-keepsLower l w total = leb (l * w * w) (10000 * total)
+abbrev pub keepsLower : Plan → (total : ℕ) → Bool
+keepsLower plan total = leb (plan .lower * plan .window * plan .window) (10000 * total)
 
--- the bounds of a start, U before L: `over` and `under` are the sums that U and L are judged by
-abbrev pub failingAt : (l u w i j over under : ℕ) → Failing
-failingAt l u w i j over under =
-    elim (keepsUpper u w over) [ false ↦ At Over i j | true ↦ elim (keepsLower l w under) [ false ↦ At Under i j | true ↦ Nowhere ] ]
+-- the bound that a start fails, U before L, by the sums that U and L are judged by
+abbrev pub failingAt : Plan → (i j forUpper forLower : ℕ) → Failing
+failingAt plan i j forUpper forLower =
+    elim (keepsUpper plan forUpper) [ false ↦ At Over i j | true ↦ elim (keepsLower plan forLower) [ false ↦ At Under i j | true ↦ Nowhere ] ]
 
 -- the earlier of two failing starts
 abbrev pub orElse : Failing → Failing → Failing
@@ -64,15 +70,20 @@ unfoldable pub failingInRows : (ℕ → ℕ → Failing) → (k m : ℕ) → Fai
 failingInRows f k zero = Nowhere
 failingInRows f k (suc m) = orElse (failingInRows f k m) (failingInRow f m k)
 
+-- the starts on an axis: 0 to the last at which a window lies in the layout
+abbrev pub startsAcross : Plan → ℕ
+startsAcross plan = suc (plan .across - plan .cut)
+
 -- the first start whose standard window fails a bound
-unfoldable pub standardFailing : (load : ℕ → ℕ → ℕ) → (n r l u w : ℕ) → Failing
-standardFailing load n r l u w =
-    failingInRows (λ i j. let s = boxSum (standardTiles r i j) load in failingAt l u w i j s s) (suc (n - r)) (suc (n - r))
+unfoldable pub standardFailing : (load : ℕ → ℕ → ℕ) → Plan → Failing
+standardFailing load plan =
+    failingInRows (λ i j. let s = boxSum (standardTiles plan i j) load in failingAt plan i j s s) (startsAcross plan) (startsAcross plan)
 
 -- the first start whose bloated window fails U or whose shrunk window fails L
-unfoldable pub marginFailing : (load : ℕ → ℕ → ℕ) → (n r l u w : ℕ) → Failing
-marginFailing load n r l u w =
-    failingInRows (λ i j. failingAt l u w i j (boxSum (bloatedTiles n r i j) load) (boxSum (shrunkTiles r i j) load)) (suc (n - r)) (suc (n - r))
+unfoldable pub marginFailing : (load : ℕ → ℕ → ℕ) → Plan → Failing
+marginFailing load plan =
+    failingInRows (λ i j. failingAt plan i j (boxSum (bloatedTiles plan i j) load) (boxSum (shrunkTiles plan i j) load))
+    (startsAcross plan) (startsAcross plan)
 
 -- broken at a failing standard window; else undecided at a failing bloated or shrunk one; else safe
 abbrev pub judged : Failing → Failing → Verdict
@@ -80,10 +91,9 @@ judged (At b i j) margin = Broken b i j
 judged Nowhere (At b i j) = Undecided b i j
 judged Nowhere Nowhere = Safe
 
--- the verdict on a table of amounts; n tiles a side, r across a window, of side d
-abbrev pub verdictOf : List Rect → List ℕ → (n r d l u w : ℕ) → Verdict
-verdictOf rs amounts n r d l u w =
-    judged (standardFailing (load rs amounts n d) n r l u w) (marginFailing (load rs amounts n d) n r l u w)
+-- the verdict on a table of amounts
+abbrev pub verdictOf : List Rect → List ℕ → Plan → Verdict
+verdictOf rs amounts plan = judged (standardFailing (load rs amounts plan) plan) (marginFailing (load rs amounts plan) plan)
 
 -- the verdict in numbers: 0 safe, 1 broken, 2 undecided; then 0 over or 1 under, and the start's column and row
 abbrev pub boundNumber : Bound → ℕ

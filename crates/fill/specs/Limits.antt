@@ -1,31 +1,52 @@
 -- What 64 bits ask of a caller: no side past 2^20, and no amount above its tile's area. A buyer need not read it: no contract of the unit's
 -- public functions names it, and every accepted job has it.
-use Prim.Native.Nat.{ℕ, _*_, _≤_}
+use Prim.Native.Nat.{ℕ, _+_, _*_, _≤_, _<_}
 use mathlib.Core.Path.{_≡_}
 use mathlib.Core.List.{List}
 use lib.ListN.{length, getD}
 use Rattle.geometry.specs.declared.Rect.{Rect}
 use Rattle.geometry.specs.Layout.{Drawn}
+use Rattle.fill.specs.declared.Plan.{Plan}
+use Rattle.fill.specs.Free.{Within}
 
 -- no number of the table, no gap and no far corner of the box past 2^20; the rectangles may overlap
-pub record Small (table : List ℕ) (gap : ℕ) (b : Rect) : Type 0 where
+pub record SmallBox (table : List ℕ) (gap : ℕ) (b : Rect) : Type 0 where
   pub numbers : (i : ℕ) → getD table i 0 ≤ 1048576
   pub narrow : gap ≤ 1048576
   pub right : b .x2 ≤ 1048576
   pub high : b .y2 ≤ 1048576
 
--- a table of amounts for n by n tiles of side d, at most 64 a side
-pub record Tiled (amounts : List ℕ) (n d : ℕ) : Type 0 where
-  pub few : n ≤ 64
-  pub table : length amounts ≡ n * n
-  pub room : (i : ℕ) → getD amounts i 0 ≤ d * d
-  pub side : n * d ≤ 1048576
+-- a box whose size is formed
+pub record Upright (b : Rect) : Type 0 where
+  pub across : b .x1 ≤ b .x2
+  pub up : b .y1 ≤ b .y2
+  pub right : b .x2 ≤ 1048576
+  pub high : b .y2 ≤ 1048576
 
--- a plan that is judged: rectangles, amounts, r tiles across a window of side w, bounds l and u
-pub record Planned (rects amounts : List ℕ) (n r d l u w : ℕ) : Type 0 where
+-- a rectangle stands at a place of the table, and may be grown by the gap
+pub record Growable (table : List ℕ) (gap at : ℕ) : Type 0 where
+  pub place : at + 3 < length table
+  pub numbers : (i : ℕ) → getD table i 0 ≤ 1048576
+  pub narrow : gap ≤ 1048576
+
+-- the squares around the box m, which lies in b, are counted by the rectangles from a place on
+pub record Around (table : List ℕ) (gap at : ℕ) (b m : Rect) : Type 0 where
+  pub place : at ≤ length table
+  pub small : SmallBox table gap b
+  pub within : Within m b
+
+-- a layout whose loads are formed: its rectangles, and an amount for each of its tiles, at most 64 across
+pub record Tiled (rects amounts : List ℕ) (plan : Plan) : Type 0 where
   pub drawn : Drawn rects
-  pub tiled : Tiled amounts n d
-  pub across : r ≤ n
-  pub window : w ≤ 1048576
-  pub least : l ≤ 10000
-  pub greatest : u ≤ 10000
+  pub few : plan .across ≤ 64
+  pub table : length amounts ≡ plan .across * plan .across
+  pub room : (i : ℕ) → getD amounts i 0 ≤ plan .side * plan .side
+  pub layout : plan .across * plan .side ≤ 1048576
+
+-- a plan that is judged
+pub record Planned (rects amounts : List ℕ) (plan : Plan) : Type 0 where
+  pub tiled : Tiled rects amounts plan
+  pub fits : plan .cut ≤ plan .across
+  pub window : plan .window ≤ 1048576
+  pub lower : plan .lower ≤ 10000
+  pub upper : plan .upper ≤ 10000

@@ -1,6 +1,6 @@
 -- The sums and the one search that the code forms for the verdict. A buyer need not read them: proofs/Windows.antt shows that they give
 -- `verdictOf`. Standard windows are searched with a margin of 0 tiles, bloated and shrunk ones with a margin of 1.
-use Prim.Native.Nat.{ℕ, suc, _+_, _-_, _*_, _≤_, _<_, min}
+use Prim.Native.Nat.{ℕ, suc, _+_, _-_, _*_, _/_, _%_, _≤_, _<_, min}
 use mathlib.Core.Path.{_≡_}
 use mathlib.Core.Bool.{Bool, true, false}
 use mathlib.Core.List.{List}
@@ -8,42 +8,86 @@ use lib.Dec.{leb}
 use lib.ListN.{length, getD}
 use Rattle.geometry.specs.declared.Rect.{Rect}
 use Rattle.geometry.specs.Count.{boxSum}
+use Rattle.fill.specs.declared.Plan.{Plan}
+use Rattle.fill.specs.declared.judging.Rule.{Rule}
 use Rattle.fill.specs.declared.Bound.the-variants.{Over, Under}
 use Rattle.fill.specs.declared.Failing.{Failing}
 use Rattle.fill.specs.declared.Failing.the-variants.{Nowhere, At}
-use Rattle.fill.specs.Judge.{numberAt, failingInRows}
+use Rattle.fill.specs.Judge.{TileBox, numberAt, load, failingInRows}
 
--- the tiles whose load is held to the upper bound, and to the lower
-abbrev pub overTiles : (n r margin i j : ℕ) → Rect
-overTiles n r margin i j = record { x1 = i; y1 = j; x2 = min (i + r + margin) n; y2 = min (j + r + margin) n }
+-- what the loads of a plan are judged by
+abbrev pub ruleOf : Plan → Rule
+ruleOf plan =
+    record {
+      across = plan .across;
+      cut = plan .cut;
+      low = plan .lower * plan .window * plan .window;
+      high = plan .upper * plan .window * plan .window;
+    }
 
-abbrev pub underTiles : (r margin i j : ℕ) → Rect
-underTiles r margin i j = record { x1 = i + margin; y1 = j + margin; x2 = i + r; y2 = j + r }
+-- the load of tile number t, row by row
+abbrev pub loadOf : List Rect → List ℕ → Plan → ℕ → ℕ
+loadOf rs amounts plan t = load rs amounts plan (t % plan .across) (t / plan .across)
 
--- the bound that a start fails, U before L; `low` and `high` are 10000 times the least and the greatest sum
-abbrev pub failingWithin : (low high i j over under : ℕ) → Failing
-failingWithin low high i j over under =
-    elim (leb (10000 * over) high) [ false ↦ At Over i j | true ↦ elim (leb low (10000 * under)) [ false ↦ At Under i j | true ↦ Nowhere ] ]
+-- the tiles whose load the upper bound is held to, and the lower bound
+abbrev pub tilesForUpper : Rule → (margin i j : ℕ) → TileBox
+tilesForUpper rule margin i j =
+    record { x1 = i; y1 = j; x2 = min (i + rule .cut + margin) (rule .across); y2 = min (j + rule .cut + margin) (rule .across) }
 
-abbrev pub failingBy : (load : ℕ → ℕ → ℕ) → (n r low high margin i j : ℕ) → Failing
-failingBy load n r low high margin i j =
-    failingWithin low high i j (boxSum (overTiles n r margin i j) load) (boxSum (underTiles r margin i j) load)
+abbrev pub tilesForLower : Rule → (margin i j : ℕ) → TileBox
+tilesForLower rule margin i j = record { x1 = i + margin; y1 = j + margin; x2 = i + rule .cut; y2 = j + rule .cut }
 
-abbrev pub searchBy : (load : ℕ → ℕ → ℕ) → (n r low high margin : ℕ) → Failing
-searchBy load n r low high margin = failingInRows (failingBy load n r low high margin) (suc (n - r)) (suc (n - r))
+-- the bound that a start fails, U before L, by the sums that U and L are judged by
+abbrev pub failingWithin : Rule → (i j forUpper forLower : ℕ) → Failing
+failingWithin rule i j forUpper forLower =
+    elim (leb (10000 * forUpper) (rule .high)) [
+      | false ↦ At Over i j
+      | true ↦ elim (leb (rule .low) (10000 * forLower)) [ false ↦ At Under i j | true ↦ Nowhere ]
+    ]
+
+abbrev pub failingBy : (load : ℕ → ℕ → ℕ) → Rule → (margin i j : ℕ) → Failing
+failingBy load rule margin i j =
+    failingWithin rule i j (boxSum (tilesForUpper rule margin i j) load) (boxSum (tilesForLower rule margin i j) load)
+
+abbrev pub searchBy : (load : ℕ → ℕ → ℕ) → Rule → (margin : ℕ) → Failing
+searchBy load rule margin = failingInRows (failingBy load rule margin) (suc (rule .across - rule .cut)) (suc (rule .across - rule .cut))
 
 abbrev pub isFound : Failing → Bool
 isFound Nowhere = false
 isFound (At b i j) = true
 
--- a table of loads, n a row: 10,000 times its whole load fits 64 bits
-pub record Loads (table : List ℕ) (n : ℕ) : Type 0 where
-  pub few : n ≤ 64
-  pub full : n * n ≤ length table
-  pub light : boxSum (record { x1 = 0; y1 = 0; x2 = n; y2 = n }) (numberAt table n) ≤ 1125899906842624
+-- all tiles of the layout
+abbrev pub allTiles : ℕ → TileBox
+allTiles across = record { x1 = 0; y1 = 0; x2 = across; y2 = across }
 
--- the numbers before place n of a table are those of f, and the others are as they were
+-- a table of loads, `across` to a row: 10,000 times its whole load fits 64 bits
+pub record Loads (table : List ℕ) (across : ℕ) : Type 0 where
+  pub few : across ≤ 64
+  pub full : across * across ≤ length table
+  pub light : boxSum (allTiles across) (numberAt table across) ≤ 1125899906842624
+
+-- a tile of the layout; the columns before one of a row; a box of tiles
+pub record IsTile (across i j : ℕ) : Type 0 where
+  pub column : i < across
+  pub row : j < across
+
+pub record InRow (across j x2 : ℕ) : Type 0 where
+  pub columns : x2 ≤ across
+  pub row : j < across
+
+pub record InLayout (across : ℕ) (b : TileBox) : Type 0 where
+  pub right : b .x2 ≤ across
+  pub high : b .y2 ≤ across
+
+-- (i, j) is the start of a window that lies in the layout, and a margin is at most one tile
+pub record IsStart (rule : Rule) (margin i j : ℕ) : Type 0 where
+  pub few : rule .across ≤ 64
+  pub thin : margin ≤ 1
+  pub columns : i + rule .cut ≤ rule .across
+  pub rows : j + rule .cut ≤ rule .across
+
+-- the numbers before place n of a table are those of f, and the rest are as they were
 pub record Filled (f : ℕ → ℕ) (before table : List ℕ) (n : ℕ) : Type 0 where
   pub size : length table ≡ length before
   pub set : (k : ℕ) → k < n → getD table k 0 ≡ f k
-  pub kept : (k : ℕ) → n ≤ k → getD table k 0 ≡ getD before k 0
+  pub rest : (k : ℕ) → n ≤ k → getD table k 0 ≡ getD before k 0

@@ -3,12 +3,12 @@
 use geometry::Rect;
 use geometry::larger;
 use geometry::smaller;
-ghost use Prim.Native.Nat.{ℕ, _+_, _-_, _*_, _≤_, _<_};
+ghost use Prim.Native.Nat.{_+_, _-_, _*_, _≤_, _<_};
 ghost use mathlib.Core.Path.{_≡_};
-ghost use lib.ListN.{length, getD};
+ghost use lib.ListN.{length};
 ghost use Rattle.geometry.specs.Overlaps.{rectAt};
-ghost use Rattle.fill.specs.Free.{grown, freeFrom, aroundFrom, isEmpty, meeting, Within};
-ghost use Rattle.fill.specs.Limits.{Small};
+ghost use Rattle.fill.specs.Free.{grown, freeFrom, aroundFrom, isEmpty, meeting};
+ghost use Rattle.fill.specs.Limits.{SmallBox, Upright, Growable, Around};
 
 fn is_empty(b: Rect) -> bool
     ensures { λ r. ⌜ r ≡ isEmpty b ⌝ }
@@ -21,8 +21,7 @@ fn is_empty(b: Rect) -> bool
 
 // The number of unit squares of a box.
 fn size(b: Rect) -> u64
-    requires { ⌜ (b .x1 ≤ b .x2) × (b .y1 ≤ b .y2) ⌝ }
-    requires { ⌜ (b .x2 ≤ 1048576) × (b .y2 ≤ 1048576) ⌝ }
+    requires { ⌜ Upright b ⌝ }
     ensures { λ r. ⌜ r ≡ (b .x2 - b .x1) * (b .y2 - b .y1) ⌝ }
 {
     (b.x2 - b.x1) * (b.y2 - b.y1)
@@ -37,9 +36,7 @@ fn less(a: u64, b: u64) -> u64
 
 // The rectangle at a place of the table, grown by the gap on all sides.
 fn grown_at(rects: &[u64], gap: u64, at: usize) -> Rect
-    requires { ⌜ at + 3 < length (now rects) ⌝ }
-    requires { ⌜ gap ≤ 1048576 ⌝ }
-    requires { ⌜ ((i : ℕ) → getD (now rects) i 0 ≤ 1048576) ⌝ }
+    requires { ⌜ Growable (now rects) gap at ⌝ }
     ensures { λ r. ⌜ r ≡ grown gap (rectAt (now (rects .entry)) at) ⌝ }
 {
     Rect {
@@ -66,16 +63,16 @@ fn meet(r: Rect, b: Rect) -> Rect
 // with a box.
 fn hit_at(rects: &[u64], gap: u64, at: usize, b: Rect) -> Rect
     requires { ⌜ at + 3 < length (now rects) ⌝ }
-    requires { ⌜ Small (now rects) gap b ⌝ }
+    requires { ⌜ SmallBox (now rects) gap b ⌝ }
     ensures { λ m. ⌜ m ≡ meeting (grown gap (rectAt (now (rects .entry)) at)) b ⌝ }
 {
     meet(grown_at(rects, gap, at), b)
 }
 
 // The squares of b that no rectangle from a place on holds, grown by the gap.
-pub fn free_from(rects: &[u64], gap: u64, at: usize, b: Rect) -> u64
+pub(crate) fn free_from(rects: &[u64], gap: u64, at: usize, b: Rect) -> u64
     requires { ⌜ at ≤ length (now rects) ⌝ }
-    requires { ⌜ Small (now rects) gap b ⌝ }
+    requires { ⌜ SmallBox (now rects) gap b ⌝ }
     ensures { λ r. ⌜ r ≡ freeFrom gap (now (rects .entry)) at b ⌝ }
 {
     if is_empty(b) {
@@ -93,9 +90,7 @@ pub fn free_from(rects: &[u64], gap: u64, at: usize, b: Rect) -> u64
 
 // The same of the four boxes around m, a box in b.
 fn free_around(rects: &[u64], gap: u64, at: usize, b: Rect, m: Rect) -> u64
-    requires { ⌜ at ≤ length (now rects) ⌝ }
-    requires { ⌜ Small (now rects) gap b ⌝ }
-    requires { ⌜ Within m b ⌝ }
+    requires { ⌜ Around (now rects) gap at b m ⌝ }
     ensures { λ r. ⌜ r ≡ aroundFrom gap (now (rects .entry)) at b m ⌝ }
 {
     let below = Rect { y2: m.y1, ..b };

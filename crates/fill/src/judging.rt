@@ -4,96 +4,100 @@ use crate::Failing;
 use crate::Verdict;
 use geometry::Rect;
 use geometry::smaller;
-ghost use Prim.Native.Nat.{suc, _+_, _-_, _*_, _≤_, _<_};
+ghost use Prim.Native.Nat.{suc, _-_, _≤_};
 ghost use mathlib.Core.Path.{_≡_};
 ghost use Rattle.geometry.specs.Count.{span, boxSum};
 ghost use Rattle.fill.specs.declared.Failing.the-variants.{Nowhere};
 ghost use Rattle.fill.specs.Judge.{numberAt, failingInRow, judged};
-ghost use Rattle.fill.specs.Windows.{overTiles, underTiles, failingWithin, failingBy, searchBy, isFound, Loads};
+ghost use Rattle.fill.specs.Windows.{tilesForUpper, tilesForLower, failingWithin, failingBy, searchBy, isFound, Loads, IsTile, InRow, InLayout, IsStart};
 
-// What windows are judged by: n tiles a side, r across a window, and 10,000 times
-// the least and the greatest load of a window.
-pub struct Rule {
-    pub n: u64,
-    pub r: u64,
+// What a table of loads is judged by: the tiles across the layout and across a
+// window, and 10,000 times the least and the greatest load of a window.
+pub(crate) struct Rule {
+    pub across: u64,
+    pub cut: u64,
     pub low: u64,
     pub high: u64,
 }
 
-fn load_of(loads: &[u64], n: u64, i: u64, j: u64) -> u64
-    requires { ⌜ (i < n) × (j < n) ⌝ }
-    requires { ⌜ Loads (now loads) n ⌝ }
-    ensures { λ r. ⌜ r ≡ numberAt (now (loads .entry)) n i j ⌝ }
+// The load of tile (i, j).
+fn load_of(loads: &[u64], across: u64, i: u64, j: u64) -> u64
+    requires { ⌜ IsTile across i j ⌝ }
+    requires { ⌜ Loads (now loads) across ⌝ }
+    ensures { λ r. ⌜ r ≡ numberAt (now (loads .entry)) across i j ⌝ }
 {
-    let at = j * n + i;
+    let at = j * across + i;
     loads[at as usize]
 }
 
 // The load of the columns x1 to x2 of row j.
-fn row_load(loads: &[u64], n: u64, j: u64, x1: u64, x2: u64) -> u64
-    requires { ⌜ (x2 ≤ n) × (j < n) ⌝ }
-    requires { ⌜ Loads (now loads) n ⌝ }
-    ensures { λ r. ⌜ r ≡ span x1 x2 (λ i. numberAt (now (loads .entry)) n i j) ⌝ }
+fn row_load(loads: &[u64], across: u64, j: u64, x1: u64, x2: u64) -> u64
+    requires { ⌜ InRow across j x2 ⌝ }
+    requires { ⌜ Loads (now loads) across ⌝ }
+    ensures { λ r. ⌜ r ≡ span x1 x2 (λ i. numberAt (now (loads .entry)) across i j) ⌝ }
 {
     let mut total: u64 = 0;
     let mut i = x1;
     while i < x2 {
-        total += load_of(loads, n, i, j);
+        total += load_of(loads, across, i, j);
         i += 1;
     }
     total
 }
 
-// The load of a box of tiles.
-fn tiles_load(loads: &[u64], n: u64, b: Rect) -> u64
-    requires { ⌜ (b .x2 ≤ n) × (b .y2 ≤ n) ⌝ }
-    requires { ⌜ Loads (now loads) n ⌝ }
-    ensures { λ r. ⌜ r ≡ boxSum b (numberAt (now (loads .entry)) n) ⌝ }
+// The load of a box of tiles, which counts in tiles.
+fn tiles_load(loads: &[u64], across: u64, b: Rect) -> u64
+    requires { ⌜ InLayout across b ⌝ }
+    requires { ⌜ Loads (now loads) across ⌝ }
+    ensures { λ r. ⌜ r ≡ boxSum b (numberAt (now (loads .entry)) across) ⌝ }
 {
     let mut total: u64 = 0;
     let mut j = b.y1;
     while j < b.y2 {
-        total += row_load(loads, n, j, b.x1, b.x2);
+        total += row_load(loads, across, j, b.x1, b.x2);
         j += 1;
     }
     total
 }
 
-fn over_tiles(rule: Rule, margin: u64, i: u64, j: u64) -> Rect
-    requires { ⌜ (i + rule .r ≤ 64) × (j + rule .r ≤ 64) ⌝ }
-    requires { ⌜ margin ≤ 1 ⌝ }
-    ensures { λ b. ⌜ b ≡ overTiles (rule .n) (rule .r) margin i j ⌝ }
+// The tiles whose load the upper bound is held to, a box that counts in tiles:
+// those of the window at a start, and `margin` more, cut off at the edge.
+fn tiles_for_upper(rule: Rule, margin: u64, i: u64, j: u64) -> Rect
+    requires { ⌜ IsStart rule margin i j ⌝ }
+    ensures { λ b. ⌜ b ≡ tilesForUpper rule margin i j ⌝ }
 {
     Rect {
         x1: i,
         y1: j,
-        x2: smaller(i + rule.r + margin, rule.n),
-        y2: smaller(j + rule.r + margin, rule.n),
+        x2: smaller(i + rule.cut + margin, rule.across),
+        y2: smaller(j + rule.cut + margin, rule.across),
     }
 }
 
-fn under_tiles(rule: Rule, margin: u64, i: u64, j: u64) -> Rect
-    requires { ⌜ (i + rule .r ≤ 64) × (j + rule .r ≤ 64) ⌝ }
-    requires { ⌜ margin ≤ 1 ⌝ }
-    ensures { λ b. ⌜ b ≡ underTiles (rule .r) margin i j ⌝ }
+// The tiles whose load the lower bound is held to, a box that counts in tiles:
+// those of the window at a start, less the first `margin`.
+fn tiles_for_lower(rule: Rule, margin: u64, i: u64, j: u64) -> Rect
+    requires { ⌜ IsStart rule margin i j ⌝ }
+    ensures { λ b. ⌜ b ≡ tilesForLower rule margin i j ⌝ }
 {
     Rect {
         x1: i + margin,
         y1: j + margin,
-        x2: i + rule.r,
-        y2: j + rule.r,
+        x2: i + rule.cut,
+        y2: j + rule.cut,
     }
 }
 
-// The bound that two sums fail, U before L.
-fn failed(rule: Rule, i: u64, j: u64, over: u64, under: u64) -> Failing
-    requires { ⌜ (over ≤ 1125899906842624) × (under ≤ 1125899906842624) ⌝ }
-    ensures { λ f. ⌜ f ≡ failingWithin (rule .low) (rule .high) i j over under ⌝ }
+// The bound that a start fails, U before L: `upper` and `lower` are the sums that
+// U and L are judged by.
+fn failed(rule: Rule, i: u64, j: u64, upper: u64, lower: u64) -> Failing
+    requires { ⌜ (upper ≤ 1125899906842624) × (lower ≤ 1125899906842624) ⌝ }
+    ensures { λ f. ⌜ f ≡ failingWithin rule i j upper lower ⌝ }
 {
-    if rule.high < 10000 * over {
+    if rule.high < 10000 * upper {
         return Failing::At(Bound::Over, i, j);
     }
-    if 10000 * under < rule.low {
+    if 10000 * lower < rule.low {
         return Failing::At(Bound::Under, i, j);
     }
     Failing::Nowhere
@@ -101,14 +105,13 @@ fn failed(rule: Rule, i: u64, j: u64, over: u64, under: u64) -> Failing
 
 // The bound that the windows of a start fail.
 fn failing_at(loads: &[u64], rule: Rule, margin: u64, i: u64, j: u64) -> Failing
-    requires { ⌜ Loads (now loads) (rule .n) ⌝ }
-    requires { ⌜ (i + rule .r ≤ rule .n) × (j + rule .r ≤ rule .n) ⌝ }
-    requires { ⌜ margin ≤ 1 ⌝ }
-    ensures { λ f. ⌜ f ≡ failingBy (numberAt (now (loads .entry)) (rule .n)) (rule .n) (rule .r) (rule .low) (rule .high) margin i j ⌝ }
+    requires { ⌜ Loads (now loads) (rule .across) ⌝ }
+    requires { ⌜ IsStart rule margin i j ⌝ }
+    ensures { λ f. ⌜ f ≡ failingBy (numberAt (now (loads .entry)) (rule .across)) rule margin i j ⌝ }
 {
-    let over = tiles_load(loads, rule.n, over_tiles(rule, margin, i, j));
-    let under = tiles_load(loads, rule.n, under_tiles(rule, margin, i, j));
-    failed(rule, i, j, over, under)
+    let upper = tiles_load(loads, rule.across, tiles_for_upper(rule, margin, i, j));
+    let lower = tiles_load(loads, rule.across, tiles_for_lower(rule, margin, i, j));
+    failed(rule, i, j, upper, lower)
 }
 
 fn is_found(f: Failing) -> bool
@@ -122,12 +125,11 @@ fn is_found(f: Failing) -> bool
 
 // The first failing start of a row.
 fn failing_in_row(loads: &[u64], rule: Rule, margin: u64, j: u64) -> Failing
-    requires { ⌜ Loads (now loads) (rule .n) ⌝ }
-    requires { ⌜ (rule .r ≤ rule .n) × (j + rule .r ≤ rule .n) ⌝ }
-    requires { ⌜ margin ≤ 1 ⌝ }
-    ensures { λ f. ⌜ f ≡ failingInRow (failingBy (numberAt (now (loads .entry)) (rule .n)) (rule .n) (rule .r) (rule .low) (rule .high) margin) j (suc (rule .n - rule .r)) ⌝ }
+    requires { ⌜ Loads (now loads) (rule .across) ⌝ }
+    requires { ⌜ IsStart rule margin 0 j ⌝ }
+    ensures { λ f. ⌜ f ≡ failingInRow (failingBy (numberAt (now (loads .entry)) (rule .across)) rule margin) j (suc (rule .across - rule .cut)) ⌝ }
 {
-    let last = rule.n - rule.r;
+    let last = rule.across - rule.cut;
     let mut i: u64 = 0;
     while i <= last {
         let f = failing_at(loads, rule, margin, i, j);
@@ -141,12 +143,11 @@ fn failing_in_row(loads: &[u64], rule: Rule, margin: u64, j: u64) -> Failing
 
 // The first failing start, rows in order, in a row columns in order.
 fn first_failing(loads: &[u64], rule: Rule, margin: u64) -> Failing
-    requires { ⌜ Loads (now loads) (rule .n) ⌝ }
-    requires { ⌜ rule .r ≤ rule .n ⌝ }
-    requires { ⌜ margin ≤ 1 ⌝ }
-    ensures { λ f. ⌜ f ≡ searchBy (numberAt (now (loads .entry)) (rule .n)) (rule .n) (rule .r) (rule .low) (rule .high) margin ⌝ }
+    requires { ⌜ Loads (now loads) (rule .across) ⌝ }
+    requires { ⌜ IsStart rule margin 0 0 ⌝ }
+    ensures { λ f. ⌜ f ≡ searchBy (numberAt (now (loads .entry)) (rule .across)) rule margin ⌝ }
 {
-    let last = rule.n - rule.r;
+    let last = rule.across - rule.cut;
     let mut j: u64 = 0;
     while j <= last {
         let f = failing_in_row(loads, rule, margin, j);
@@ -169,10 +170,10 @@ fn unbroken(margin: Failing) -> Verdict
 }
 
 // The verdict on a table of loads.
-pub fn judge_loads(loads: &[u64], rule: Rule) -> Verdict
-    requires { ⌜ Loads (now loads) (rule .n) ⌝ }
-    requires { ⌜ rule .r ≤ rule .n ⌝ }
-    ensures { λ v. ⌜ v ≡ judged (searchBy (numberAt (now (loads .entry)) (rule .n)) (rule .n) (rule .r) (rule .low) (rule .high) 0) (searchBy (numberAt (now (loads .entry)) (rule .n)) (rule .n) (rule .r) (rule .low) (rule .high) 1) ⌝ }
+pub(crate) fn judge_loads(loads: &[u64], rule: Rule) -> Verdict
+    requires { ⌜ Loads (now loads) (rule .across) ⌝ }
+    requires { ⌜ rule .cut ≤ rule .across ⌝ }
+    ensures { λ v. ⌜ v ≡ judged (searchBy (numberAt (now (loads .entry)) (rule .across)) rule 0) (searchBy (numberAt (now (loads .entry)) (rule .across)) rule 1) ⌝ }
 {
     let standard = first_failing(loads, rule, 0);
     match standard {

@@ -5,7 +5,7 @@ ghost use mathlib.Core.Path.{_≡_};
 ghost use Rattle.geometry.specs.Layout.{rectsOf};
 ghost use Rattle.fill.specs.Eligible.{tile, fillableArea};
 ghost use Rattle.fill.specs.Judge.{verdictOf};
-ghost use Rattle.fill.specs.Limits.{Small, Planned};
+ghost use Rattle.fill.specs.Limits.{SmallBox, Planned};
 
 mod free;
 mod judging;
@@ -31,54 +31,55 @@ pub enum Verdict {
     Undecided(Bound, u64, u64),
 }
 
+// What a fill is judged by: how the layout is cut into tiles, and the bounds on
+// the density of its windows, in ten-thousandths.
+pub struct Plan {
+    pub across: u64, // tiles across the layout
+    pub cut: u64, // tiles across a window
+    pub side: u64, // side of a tile
+    pub window: u64, // side of a window
+    pub lower: u64,
+    pub upper: u64,
+}
+
 // The box of a tile.
-pub fn tile_box(d: u64, i: u64, j: u64) -> Rect
-    requires { ⌜ (suc i * d ≤ 1048576) × (suc j * d ≤ 1048576) ⌝ }
-    ensures { λ b. ⌜ b ≡ tile d i j ⌝ }
+pub fn tile_box(side: u64, i: u64, j: u64) -> Rect
+    requires { ⌜ (suc i * side ≤ 1048576) × (suc j * side ≤ 1048576) ⌝ }
+    ensures { λ b. ⌜ b ≡ tile side i j ⌝ }
 {
-    let x = i * d;
-    let y = j * d;
+    let x = i * side;
+    let y = j * side;
     Rect {
         x1: x,
         y1: y,
-        x2: x + d,
-        y2: y + d,
+        x2: x + side,
+        y2: y + side,
     }
 }
 
 // The fillable area of a box, such as a tile. The table is lent without padding:
-// a rectangle of zeros covers nothing, yet keeps fill a gap away from (0, 0).
+// a rectangle of zeros covers nothing, yet holds fill a gap away from (0, 0).
 pub fn fillable(rects: &[u64], gap: u64, b: Rect) -> u64
-    requires { ⌜ Small (now rects) gap b ⌝ }
+    requires { ⌜ SmallBox (now rects) gap b ⌝ }
     ensures { λ r. ⌜ r ≡ fillableArea gap (rectsOf (now (rects .entry))) b ⌝ }
 {
     free::free_from(rects, gap, 0, b)
 }
 
-// The verdict on a table of amounts, one to a tile, row by row: n tiles of side d
-// a side, r of them across a window of side w, bounds l and u.
-pub fn judge(
-    rects: &[u64],
-    amounts: &[u64],
-    n: u64,
-    r: u64,
-    d: u64,
-    l: u64,
-    u: u64,
-    w: u64,
-) -> Verdict
-    requires { ⌜ Planned (now rects) (now amounts) n r d l u w ⌝ }
-    ensures { λ v. ⌜ v ≡ verdictOf (rectsOf (now (rects .entry))) (now (amounts .entry)) n r d l u w ⌝ }
+// The verdict on a table of amounts, one to a tile, row by row.
+pub fn judge(rects: &[u64], amounts: &[u64], plan: Plan) -> Verdict
+    requires { ⌜ Planned (now rects) (now amounts) plan ⌝ }
+    ensures { λ v. ⌜ v ≡ verdictOf (rectsOf (now (rects .entry))) (now (amounts .entry)) plan ⌝ }
 {
     let mut table = [0u64; 4096];
-    tiling::set_loads(rects, amounts, n, d, &mut table);
+    tiling::set_loads(rects, amounts, plan, &mut table);
     judging::judge_loads(
         &table,
         judging::Rule {
-            n,
-            r,
-            low: l * w * w,
-            high: u * w * w,
+            across: plan.across,
+            cut: plan.cut,
+            low: plan.lower * plan.window * plan.window,
+            high: plan.upper * plan.window * plan.window,
         },
     )
 }

@@ -1,6 +1,7 @@
 -- The one way in which an extreme is taken: rows in order, in a row columns in order, replaced only by a strictly better area.
 -- So the window that it names has the least y, then the least x, unless the one that stood before is as good.
 use Prim.Native.Nat.{ℕ, zero, suc, _*_}
+use mathlib.Core.Path.{_≡_}
 use mathlib.Core.Bool.{Bool, true, false}
 use mathlib.Core.List.{List, _∷_}
 use lib.Dec.{ltb}
@@ -12,6 +13,10 @@ use Rattle.geometry.specs.declared.Sense.the-variants.{Greatest, Least}
 abbrev pub better : Sense → ℕ → ℕ → Bool
 better Greatest new old = ltb old new
 better Least new old = ltb new old
+
+-- an area is no better than the one that stands
+abbrev pub NoBetter : Sense → ℕ → ℕ → Type 0
+NoBetter s new old = better s new old ≡ false
 
 -- the window at (x, y) with its value under f
 abbrev pub spotAt : (ℕ → ℕ → ℕ) → ℕ → ℕ → Spot

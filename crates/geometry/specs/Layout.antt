@@ -25,8 +25,8 @@ abbrev pub sharesSquare : List Rect → Rect → Bool
 sharesSquare rs b = ltb 0 (coveredArea rs b)
 
 -- the window of side w at (x, y)
-abbrev pub window : ℕ → ℕ → ℕ → Rect
-window w x y = record { x1 = x; y1 = y; x2 = x + w; y2 = y + w }
+abbrev pub windowBox : ℕ → ℕ → ℕ → Rect
+windowBox w x y = record { x1 = x; y1 = y; x2 = x + w; y2 = y + w }
 
 -- no unit square lies in two of the rectangles
 unfoldable pub Disjoint : List Rect → Type 0

@@ -2,4 +2,5 @@ pub mod Count
 pub mod Layout
 pub mod Extreme
 pub mod Overlaps
-pub mod Cases
+pub mod Row
+pub mod JobA

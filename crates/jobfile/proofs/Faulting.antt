@@ -14,7 +14,7 @@ use Rattle.geometry.specs.declared.Rect.{Rect}
 use Rattle.geometry.specs.Layout.{rectsOf, sharesSquare}
 use Rattle.fill.specs.Eligible.{tile, fillableArea}
 use Rattle.fill.specs.Judge.{tileIndex, numberAt}
-use Rattle.fill.specs.Limits.{Small}
+use Rattle.fill.specs.Limits.{SmallBox}
 use Rattle.jobfile.specs.declared.Head.{Head}
 use Rattle.jobfile.specs.declared.Form.{Form}
 use Rattle.jobfile.specs.declared.Form.the-variants.{Unknown, Heading, Shape, Fill, End}
@@ -147,7 +147,7 @@ tile-in-table s rects amounts i j t at k e hi hj place = rw place (lt-of-lt-of-l
 
 -- what the fillable area of a tile asks of the table and the tile's box
 pub tile-small : (s : State) (rects : List ℕ) (i j : ℕ) (b : Rect) → TileAsked s rects i j → b ≡ tile (tileSide (s .head)) i j →
-    Small (take (4 * s .count) rects) (s .head .gap) b
+    SmallBox (take (4 * s .count) rects) (s .head .gap) b
 tile-small s rects i j b k e =
     rw e
     (record {

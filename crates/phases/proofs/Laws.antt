@@ -15,10 +15,11 @@ use Rattle.unit.specs.declared.run.Answer.{Answer}
 use Rattle.unit.specs.Answering.{answerOf}
 use Rattle.unit.specs.Ready.{standingOf, jobStanding}
 use Rattle.unit.proofs.Accepting.{accepted-standing}
+use Rattle.unit.proofs.Running.{planAt}
 use Rattle.phases.specs.Phase.{phaseNumber, phaseOf}
 
 pub verdict-at : (h : Head) (rects amounts : List ℕ) (tiles side : ℕ) {v : Verdict} → tiles ≡ tilesAcross h → side ≡ tileSide h →
-    v ≡ verdictOf (rectsOf rects) amounts tiles (h .cut) side (h .lower) (h .upper) (h .window) → v ≡ answerOf (standingOf h rects amounts) .verdict
+    v ≡ verdictOf (rectsOf rects) amounts (planAt h tiles side) → v ≡ answerOf (standingOf h rects amounts) .verdict
 unfolding answerOf
 verdict-at h rects amounts tiles side et es e = rw (et, es) at e
 

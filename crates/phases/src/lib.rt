@@ -1,5 +1,6 @@
 // The phases of a job by themselves, for the benchmark. Each gives one number of
 // the answer, so that no phase can be left out.
+use fill::Plan;
 use fill::Verdict;
 use jobfile::Head;
 use jobfile::Job;
@@ -49,17 +50,15 @@ fn judged_number(head: Head, rects: &[u64], amounts: &[u64]) -> u64
 {
     let side = jobfile::tile_side(head);
     let tiles = jobfile::tiles_across(head);
-    let verdict = fill::judge(
-        rects,
-        amounts,
-        tiles,
-        head.cut,
+    let plan = Plan {
+        across: tiles,
+        cut: head.cut,
         side,
-        head.lower,
-        head.upper,
-        head.window,
-    );
-    number_of(verdict)
+        window: head.window,
+        lower: head.lower,
+        upper: head.upper,
+    };
+    number_of(fill::judge(rects, amounts, plan))
 }
 
 fn phase_number(phase: u64, head: Head, rects: &[u64], amounts: &[u64]) -> u64

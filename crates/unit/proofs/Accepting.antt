@@ -55,12 +55,17 @@ facts-ready st f =
       small = omega (arith, h .size-most);
       accurate = h .accuracy-most;
       planned = record {
-        drawn = f .drawn;
-        tiled = record { few = h .tiles-most; table = f .sized; room = amount-room st f; side = omega (arith, h .size-tiles, h .size-most) };
-        across = h .cut-tiles;
+        tiled = record {
+          drawn = f .drawn;
+          few = h .tiles-most;
+          table = f .sized;
+          room = amount-room st f;
+          layout = omega (arith, h .size-tiles, h .size-most);
+        };
+        fits = h .cut-tiles;
         window = omega (arith, h .window-most, h .size-most);
-        least = omega (arith, h .bounds-order, h .bounds-most);
-        greatest = h .bounds-most;
+        lower = omega (arith, h .bounds-order, h .bounds-most);
+        upper = h .bounds-most;
       };
     }
 

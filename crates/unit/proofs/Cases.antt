@@ -5,7 +5,7 @@ use lib.Count.{trailingZeros}
 use Rattle.geometry.specs.Count.{sum}
 use Rattle.geometry.specs.Layout.{covered}
 use Rattle.geometry.specs.Extreme.{bestInRow, bestInRows}
-use Rattle.geometry.specs.Cases.{foundIn, statedIn}
+use Rattle.geometry.specs.Row.{foundIn, statedIn}
 use Rattle.extremes.specs.Exact.{extreme}
 use Rattle.zoom.specs.Run.{levelOf, levelAt, runFrom, quickRun}
 use Rattle.fill.specs.Eligible.{clearOfAll}

@@ -5,7 +5,6 @@ use mathlib.Core.Bool.{Bool}
 use mathlib.Core.List.{List, [], _∷_}
 use native.Mathlib.Nat.{mul-le-mul-right}
 use native.Mathlib.Omega.{arith}
-use lib.Dec.{T}
 use lib.ListN.{getD}
 use Rattle.geometry.specs.declared.Rect.{Rect}
 use Rattle.geometry.specs.declared.Sense.{Sense}
@@ -16,18 +15,19 @@ use Rattle.zoom.specs.declared.End.{End}
 use Rattle.zoom.specs.declared.End.the-variants.{Met, Stopped, Exact}
 use Rattle.zoom.specs.Run.{endNumber, quickRun}
 use Rattle.zoom.proofs.Bracket.{Accurate, quick-run-promises, levels-at-most}
+use Rattle.fill.specs.declared.Plan.{Plan}
 use Rattle.fill.specs.declared.Bound.{Bound}
 use Rattle.fill.specs.declared.Bound.the-variants.{Over, Under}
 use Rattle.fill.specs.declared.Verdict.{Verdict}
 use Rattle.fill.specs.declared.Verdict.the-variants.{Safe, Broken, Undecided}
 use Rattle.fill.specs.Eligible.{tile, fillableArea}
 use Rattle.fill.specs.Judge.{numberAt, boundNumber, verdictNumbers, verdictOf}
-use Rattle.fill.specs.Placement.{Placement, placedSum, keeps}
-use Rattle.fill.proofs.Promise.{safe-keeps, broken-breaks}
+use Rattle.fill.specs.Placement.{Placement}
+use Rattle.fill.proofs.Promise.{Dissected, safe-keeps, broken-breaks}
 use Rattle.fill.proofs.Placing.{placement}
 use Rattle.jobfile.specs.Forms.{tileSide, tilesAcross}
 use Rattle.jobfile.specs.Faults.{Standing}
-use Rattle.unit.specs.Answering.{answerOf}
+use Rattle.unit.specs.Answering.{planOf, answerOf}
 use Rattle.unit.specs.Promise.{RealWindow, Earliest, distance, ExactPromise, QuickPromise, FillPromise, Promises}
 
 -- what an accepted head and its amounts say: tiles fit the window and the layout, and no amount exceeds its tile's fillable area
@@ -79,19 +79,19 @@ number-broken (Broken c k l) b i j h = λ t. Broken (bound t) (column t) (row t)
 real : (s : Sense) (st : Standing) → RealWindow st (extreme s (st .shapes) (st .head .size) (st .head .window))
 real s st =
     let p = extreme-over-all s (st .shapes) (st .head .size) (st .head .window) in
-    record { position = record { across = p .x-in; down = p .y-in }; area = p .area-is }
+    record { position = p .position; area = p .area-is }
 
 earliest : (s : Sense) (st : Standing) → Earliest st (extreme s (st .shapes) (st .head .size) (st .head .window))
-earliest s st x y p = extreme-over-all s (st .shapes) (st .head .size) (st .head .window) .first x y (p .across) (p .down)
+earliest s st x y p = extreme-over-all s (st .shapes) (st .head .size) (st .head .window) .first x y p
 
 exact-kept : (st : Standing) → ExactPromise st (exactRun (st .shapes) (st .head .size) (st .head .window))
 exact-kept st =
     record {
       greatest = real Greatest st;
-      none-more = λ x y p. extreme-over-all Greatest (st .shapes) (st .head .size) (st .head .window) .none-better x y (p .across) (p .down);
+      none-more = extreme-over-all Greatest (st .shapes) (st .head .size) (st .head .window) .none-better;
       greatest-first = earliest Greatest st;
       least = real Least st;
-      none-less = λ x y p. extreme-over-all Least (st .shapes) (st .head .size) (st .head .window) .none-better x y (p .across) (p .down);
+      none-less = extreme-over-all Least (st .shapes) (st .head .size) (st .head .window) .none-better;
       least-first = earliest Least st;
     }
 
@@ -115,80 +115,56 @@ quick-kept st r =
       levels-done = levels-at-most Greatest (st .shapes) (h .size) (h .window) (h .accuracy) (h .levels) (r .some-level);
     }
 
--- ---- the fill, over the window's and the layout's own sides
+-- ---- the fill
 
-module _ (g : ℕ) (rs : List Rect) (amounts : List ℕ) (n r d l u w size : ℕ) (fits : r ≤ n) (w-is : w ≡ r * d) (size-is : size ≡ n * d) where
-  safe-all : 1 ≤ d → verdictOf rs amounts n r d l u w ≡ Safe → (chosen : ℕ → ℕ → Bool) → Placement g rs amounts n d chosen →
-      (b : Bound) (x y : ℕ) → x ≤ size - w → y ≤ size - w → T (keeps b l u w (placedSum rs chosen w x y))
-  safe-all pos e chosen p b x y hx hy =
-      rw w-is (safe-keeps g rs amounts n r d l u chosen p fits pos (rw w-is at e) b x y (omega arith) (omega arith))
-
-  module _ (b : Bound) (i j : ℕ) (e : verdictOf rs amounts n r d l u w ≡ Broken b i j) where
-    broken-all : (chosen : ℕ → ℕ → Bool) → Placement g rs amounts n d chosen → T (keeps b l u w (placedSum rs chosen w (i * d) (j * d))) → ⊥
-    broken-all chosen p k = broken-breaks g rs amounts n r d l u chosen p fits b i j (rw w-is at e) .breaks (rw w-is at k)
-
-    -- some placement shows that the named start is one
-    broken-start : (chosen : ℕ → ℕ → Bool) → Placement g rs amounts n d chosen → (i ≤ n - r) × (j ≤ n - r)
-    broken-start chosen p = let f = broken-breaks g rs amounts n r d l u chosen p fits b i j (rw w-is at e) in (f .column, f .row)
+dissected : (st : Standing) → Runs st → Dissected (planOf (st .head)) (st .head .size)
+dissected st k = record { window = k .window-tiles; layout = k .layout-tiles; fits = k .cut-fits }
 
 -- a start's corner is a position
-corner : (i n r d w size : ℕ) → i ≤ n - r → r ≤ n → w ≡ r * d → size ≡ n * d → i * d ≤ size - w
-corner i n r d w size h fits w-is size-is = omega (arith, mul-le-mul-right d whole)
+corner : (i across cut side w size : ℕ) → i ≤ across - cut → cut ≤ across → w ≡ cut * side → size ≡ across * side → i * side ≤ size - w
+corner i across cut side w size h fits w-is size-is = omega (arith, mul-le-mul-right side whole)
   where
-    whole : i + r ≤ n
+    whole : i + cut ≤ across
     whole = omega arith
 
 fill-kept : (st : Standing) → Runs st → FillPromise st (answerOf st .verdict)
 unfolding answerOf
 fill-kept st k =
     record {
-      safe = λ e chosen p b x y q.
-          safe-all g rs a n r d l u w size (k .cut-fits) (k .window-tiles) (k .layout-tiles) (k .some-tile) (number-safe v e) chosen p b x y (q .across) (q .down);
+      safe = λ e chosen p b x y q. safe-keeps gap rs amounts plan size whole chosen p (k .some-tile) (number-safe v e) b x y (q .across) (q .down);
       broken-there = λ b i j e.
-          let s = broken-start g rs a n r d l u w size (k .cut-fits) (k .window-tiles) (k .layout-tiles) b i j (number-broken v b i j e) (some .0) (some .1) in
-          record {
-            across = corner i n r d w size (s .0) (k .cut-fits) (k .window-tiles) (k .layout-tiles);
-            down = corner j n r d w size (s .1) (k .cut-fits) (k .window-tiles) (k .layout-tiles);
-          };
-      broken = λ b i j e chosen p c. broken-all g rs a n r d l u w size (k .cut-fits) (k .window-tiles) (k .layout-tiles) b i j (number-broken v b i j e) chosen p c;
+          let s = broken-breaks gap rs amounts plan size whole (some .0) (some .1) b i j (number-broken v b i j e) in
+          record { across = corner-at i (s .column); down = corner-at j (s .row) };
+      broken = λ b i j e chosen p c. broken-breaks gap rs amounts plan size whole chosen p b i j (number-broken v b i j e) .breaks c;
       placeable = some;
     }
   where
-    g : ℕ
-    g = st .head .gap
+    gap : ℕ
+    gap = st .head .gap
 
     rs : List Rect
     rs = st .shapes
 
-    a : List ℕ
-    a = st .amounts
+    amounts : List ℕ
+    amounts = st .amounts
 
-    n : ℕ
-    n = tilesAcross (st .head)
-
-    r : ℕ
-    r = st .head .cut
-
-    d : ℕ
-    d = tileSide (st .head)
-
-    l : ℕ
-    l = st .head .lower
-
-    u : ℕ
-    u = st .head .upper
-
-    w : ℕ
-    w = st .head .window
+    plan : Plan
+    plan = planOf (st .head)
 
     size : ℕ
     size = st .head .size
 
-    v : Verdict
-    v = verdictOf rs a n r d l u w
+    whole : Dissected plan size
+    whole = dissected st k
 
-    some : (chosen : ℕ → ℕ → Bool) × Placement g rs a n d chosen
-    some = placement g rs a n d (k .amounts-fit)
+    v : Verdict
+    v = verdictOf rs amounts plan
+
+    corner-at : (i : ℕ) → i ≤ plan .across - plan .cut → i * plan .side ≤ size - plan .window
+    corner-at i h = corner i (plan .across) (plan .cut) (plan .side) (plan .window) size h (k .cut-fits) (k .window-tiles) (k .layout-tiles)
+
+    some : (chosen : ℕ → ℕ → Bool) × Placement gap rs amounts plan chosen
+    some = placement gap rs amounts plan (k .amounts-fit)
 
 pub promises-kept : (st : Standing) → Runs st → Promises st (answerOf st)
 unfolding answerOf

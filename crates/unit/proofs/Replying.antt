@@ -103,7 +103,7 @@ module _ (file before text : List ℕ) (d : Rendered) (p : Rendering (outcomeOf 
         rw (is, replyTo, bufferAfter) (rw t (ap Accepted long-is, put))
 
     pub printed-answer : Front before (printedFor file) text (d .length)
-    printed-answer = rw is (record { count = long-is; kept = p .buffer ∙ ap (λ (o : Outcome). renderedIn o before) is })
+    printed-answer = rw is (record { count = long-is; buffer = p .buffer ∙ ap (λ (o : Outcome). renderedIn o before) is })
 
 -- the line that a refused file prints
 refusal : (number line : ℕ) → List ℕ
@@ -120,7 +120,7 @@ printed-refusal file before text d p bad after next w = go (outcomeOf unitLimits
         let same : refusal (d .fault) (d .line) ≡ refusal number line = λ i. refusal (q .numbers i .fault) (q .numbers i .line) in
         record {
           count = w .written .place ∙ zero-add (length (refusal (d .fault) (d .line))) ∙ ap length same;
-          kept =
+          buffer =
               w .written .buffer
               ∙ ap (λ (k : ℕ). refusal (d .fault) (d .line) ++ drop k text) (zero-add (length (refusal (d .fault) (d .line))))
               ∙ ap (λ (t : List ℕ). t ++ drop (length t) text) same

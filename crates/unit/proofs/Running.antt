@@ -12,6 +12,7 @@ use Rattle.extremes.specs.Exact.{exactRun}
 use Rattle.zoom.specs.declared.Quick.{Quick}
 use Rattle.zoom.specs.Run.{quickRun, density}
 use Rattle.zoom.proofs.Bracket.{quick-run-small}
+use Rattle.fill.specs.declared.Plan.{Plan}
 use Rattle.fill.specs.declared.Verdict.{Verdict}
 use Rattle.fill.specs.Judge.{verdictOf}
 use Rattle.fill.specs.Limits.{Planned}
@@ -20,6 +21,10 @@ use Rattle.jobfile.specs.Forms.{tileSide, tilesAcross}
 use Rattle.unit.specs.declared.run.Answer.{Answer}
 use Rattle.unit.specs.Answering.{answerOf}
 use Rattle.unit.specs.Ready.{Ready, standingOf}
+
+-- the plan, at the numbers of tiles and the side that the code computed
+abbrev pub planAt : Head → (tiles side : ℕ) → Plan
+planAt h tiles side = record { across = tiles; cut = h .cut; side = side; window = h .window; lower = h .lower; upper = h .upper }
 
 module _ (h : Head) (rects amounts : List ℕ) where
   abbrev quick : Quick
@@ -38,14 +43,14 @@ module _ (h : Head) (rects amounts : List ℕ) where
 
   pub answer-is : (x : Extremes) (q : Quick) (d : ℕ) (v : Verdict) (tiles side : ℕ) → x ≡ exactRun (rectsOf rects) (h .size) (h .window) → q ≡ quick →
       d ≡ density (h .window) (q .last .window .area) (q .last .far) →
-      v ≡ verdictOf (rectsOf rects) amounts tiles (h .cut) side (h .lower) (h .upper) (h .window) → tiles ≡ tilesAcross h → side ≡ tileSide h →
+      v ≡ verdictOf (rectsOf rects) amounts (planAt h tiles side) → tiles ≡ tilesAcross h → side ≡ tileSide h →
       _≡_ {A = Answer} (record { exact = x; quick = q; density = d; verdict = v }) (answerOf (standingOf h rects amounts))
   unfolding answerOf
   answer-is x q d v tiles side ex eq ed ev et es = rw (ed, ex, eq, ev, et, es)
 
-  -- what judging the fill asks, at the sides that the code computed
+  -- what judging the fill asks
   pub planned-at : Ready h rects amounts → (tiles side : ℕ) → tiles ≡ tilesAcross h → side ≡ tileSide h →
-      Planned rects amounts tiles (h .cut) side (h .lower) (h .upper) (h .window)
+      Planned rects amounts (planAt h tiles side)
   planned-at r tiles side et es = rw (et, es) (r .planned)
 
   -- the same at a number of amounts that the code computed

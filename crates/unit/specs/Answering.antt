@@ -10,6 +10,7 @@ use Rattle.zoom.specs.declared.End.the-variants.{Met, Stopped, Exact}
 use Rattle.zoom.specs.declared.Level.{Level}
 use Rattle.zoom.specs.declared.Quick.{Quick}
 use Rattle.zoom.specs.Run.{quickRun, density}
+use Rattle.fill.specs.declared.Plan.{Plan}
 use Rattle.fill.specs.declared.Bound.{Bound}
 use Rattle.fill.specs.declared.Bound.the-variants.{Over, Under}
 use Rattle.fill.specs.declared.Verdict.{Verdict}
@@ -17,9 +18,15 @@ use Rattle.fill.specs.declared.Verdict.the-variants.{Safe, Broken, Undecided}
 use Rattle.fill.specs.Judge.{verdictOf}
 use Rattle.spelling.specs.Text.{bytes}
 use Rattle.spelling.specs.Pattern.{spell}
+use Rattle.jobfile.specs.declared.Head.{Head}
 use Rattle.jobfile.specs.Forms.{tileSide, tilesAcross}
 use Rattle.jobfile.specs.Faults.{Standing}
 use Rattle.unit.specs.declared.run.Answer.{Answer}
+
+-- what a job's fill is judged by
+abbrev pub planOf : Head → Plan
+planOf h =
+    record { across = tilesAcross h; cut = h .cut; side = tileSide h; window = h .window; lower = h .lower; upper = h .upper }
 
 -- the exact run, the quick run for the greatest window, the density of its bracket and the verdict on the fill
 unfoldable pub answerOf : Standing → Answer
@@ -30,7 +37,7 @@ answerOf st =
       exact = exactRun (st .shapes) (h .size) (h .window);
       quick = q;
       density = density (h .window) (q .last .window .area) (q .last .far);
-      verdict = verdictOf (st .shapes) (st .amounts) (tilesAcross h) (h .cut) (tileSide h) (h .lower) (h .upper) (h .window);
+      verdict = verdictOf (st .shapes) (st .amounts) (planOf h);
     }
 
 -- after max, min and floor stand area, x, y

@@ -3,7 +3,7 @@
 use Prim.Native.Nat.{ℕ}
 use Prim.Native.String.{String}
 use mathlib.Core.List.{List, [], _∷_, _++_}
-use Rattle.geometry.specs.Cases.{Row, row}
+use Rattle.geometry.specs.Row.{Row, row}
 use Rattle.extremes.specs.Cases.{exactRows}
 use Rattle.zoom.specs.Cases.{zoomRows}
 use Rattle.fill.specs.Cases.{fillRows}

@@ -8,21 +8,21 @@ use mathlib.Core.Logic.{_⊎_}
 use lib.Dec.{T}
 use Rattle.geometry.specs.declared.Spot.{Spot}
 use Rattle.extremes.specs.declared.Extremes.{Extremes}
-use Rattle.extremes.specs.Exact.{windowArea}
+use Rattle.extremes.specs.Exact.{windowArea, Position}
 use Rattle.zoom.specs.declared.Quick.{Quick}
 use Rattle.zoom.specs.Run.{endNumber}
 use Rattle.fill.specs.declared.Bound.{Bound}
 use Rattle.fill.specs.declared.Verdict.{Verdict}
 use Rattle.fill.specs.Judge.{boundNumber, verdictNumbers}
 use Rattle.fill.specs.Placement.{Placement, placedSum, keeps}
-use Rattle.jobfile.specs.Forms.{tileSide, tilesAcross}
+use Rattle.jobfile.specs.Forms.{tileSide}
 use Rattle.jobfile.specs.Faults.{Standing}
 use Rattle.unit.specs.declared.run.Answer.{Answer}
+use Rattle.unit.specs.Answering.{planOf}
 
--- (x, y) is a whole-number window position
-pub record Position (st : Standing) (x y : ℕ) : Type 0 where
-  pub across : x ≤ st .head .size - st .head .window
-  pub down : y ≤ st .head .size - st .head .window
+-- (x, y) is a whole-number window position of the job
+abbrev pub PositionOf : Standing → (x y : ℕ) → Type 0
+PositionOf st x y = Position (st .head .size) (st .head .window) x y
 
 -- the area of the window at a position
 abbrev pub areaAt : Standing → (x y : ℕ) → ℕ
@@ -30,12 +30,12 @@ areaAt st x y = windowArea (st .shapes) (st .head .window) x y
 
 -- a named window is a position, and the area named with it is its area
 pub record RealWindow (st : Standing) (p : Spot) : Type 0 where
-  pub position : Position st (p .x) (p .y)
+  pub position : PositionOf st (p .x) (p .y)
   pub area : p .area ≡ areaAt st (p .x) (p .y)
 
 -- no position with the same area has a smaller y, or the same y and a smaller x
 abbrev pub Earliest : Standing → Spot → Type 0
-Earliest st p = (x y : ℕ) → Position st x y → areaAt st x y ≡ p .area → (p .y < y) ⊎ ((p .y ≡ y) × (p .x ≤ x))
+Earliest st p = (x y : ℕ) → PositionOf st x y → areaAt st x y ≡ p .area → (p .y < y) ⊎ ((p .y ≡ y) × (p .x ≤ x))
 
 -- |a − b|
 abbrev pub distance : ℕ → ℕ → ℕ
@@ -43,21 +43,20 @@ distance a b = (a - b) + (b - a)
 
 -- a choice of unit squares is a placement of the job's fill
 abbrev pub Places : Standing → (ℕ → ℕ → Bool) → Type 0
-Places st chosen = Placement (st .head .gap) (st .shapes) (st .amounts) (tilesAcross (st .head)) (tileSide (st .head)) chosen
+Places st chosen = Placement (st .head .gap) (st .shapes) (st .amounts) (planOf (st .head)) chosen
 
 -- under a placement the position (x, y) keeps a bound
 abbrev pub KeepsAt : Standing → (ℕ → ℕ → Bool) → Bound → (x y : ℕ) → Type 0
-KeepsAt st chosen b x y =
-    T (keeps b (st .head .lower) (st .head .upper) (st .head .window) (placedSum (st .shapes) chosen (st .head .window) x y))
+KeepsAt st chosen b x y = T (keeps b (planOf (st .head)) (placedSum (st .shapes) chosen (st .head .window) x y))
 
 -- the exact run: M is the area of the window it names, no position has more, and none before it has as much; its minimum likewise, and no
 -- position has less
 pub record ExactPromise (st : Standing) (e : Extremes) : Type 0 where
   pub greatest : RealWindow st (e .greatest)
-  pub none-more : (x y : ℕ) → Position st x y → areaAt st x y ≤ e .greatest .area
+  pub none-more : (x y : ℕ) → PositionOf st x y → areaAt st x y ≤ e .greatest .area
   pub greatest-first : Earliest st (e .greatest)
   pub least : RealWindow st (e .least)
-  pub none-less : (x y : ℕ) → Position st x y → e .least .area ≤ areaAt st x y
+  pub none-less : (x y : ℕ) → PositionOf st x y → e .least .area ≤ areaAt st x y
   pub least-first : Earliest st (e .least)
 
 -- the quick run, beside the exact run's M: its floor F is the area of the window it names, F ≤ M ≤ C, "met" for accuracy E bounds the
@@ -72,8 +71,8 @@ pub record QuickPromise (st : Standing) (q : Quick) (m : ℕ) : Type 0 where
 -- the fill, whichever eligible unit squares it takes: after "safe" every position keeps both bounds, on the tile grid or off it; after
 -- "broken" the named window is a position and breaks the bound named; and there is at least one placement
 pub record FillPromise (st : Standing) (v : Verdict) : Type 0 where
-  pub safe : verdictNumbers v ≡ 0 ∷ [] → (chosen : ℕ → ℕ → Bool) → Places st chosen → (b : Bound) (x y : ℕ) → Position st x y → KeepsAt st chosen b x y
-  pub broken-there : (b : Bound) (i j : ℕ) → verdictNumbers v ≡ 1 ∷ boundNumber b ∷ i ∷ j ∷ [] → Position st (i * tileSide (st .head)) (j * tileSide (st .head))
+  pub safe : verdictNumbers v ≡ 0 ∷ [] → (chosen : ℕ → ℕ → Bool) → Places st chosen → (b : Bound) (x y : ℕ) → PositionOf st x y → KeepsAt st chosen b x y
+  pub broken-there : (b : Bound) (i j : ℕ) → verdictNumbers v ≡ 1 ∷ boundNumber b ∷ i ∷ j ∷ [] → PositionOf st (i * tileSide (st .head)) (j * tileSide (st .head))
   pub broken : (b : Bound) (i j : ℕ) → verdictNumbers v ≡ 1 ∷ boundNumber b ∷ i ∷ j ∷ [] → (chosen : ℕ → ℕ → Bool) → Places st chosen →
       KeepsAt st chosen b (i * tileSide (st .head)) (j * tileSide (st .head)) → ⊥
   pub placeable : (chosen : ℕ → ℕ → Bool) × Places st chosen

@@ -9,9 +9,10 @@ use Rattle.jobfile.specs.declared.Head.{Head}
 use Rattle.jobfile.specs.declared.Job.{Job}
 use Rattle.jobfile.specs.declared.Turn.the-variants.{Done}
 use Rattle.jobfile.specs.Limits.{unitLimits}
-use Rattle.jobfile.specs.Forms.{tileSide, tilesAcross}
+use Rattle.jobfile.specs.Forms.{tilesAcross}
 use Rattle.jobfile.specs.Faults.{Standing}
 use Rattle.jobfile.specs.Held.{rectsRoom, amountsRoom, tileCount}
+use Rattle.unit.specs.Answering.{planOf}
 
 -- what a head and the two tables stand for
 abbrev pub standingOf : Head → (rects amounts : List ℕ) → Standing
@@ -24,7 +25,7 @@ pub record Ready (h : Head) (rects amounts : List ℕ) : Type 0 where
   pub window-fits : h .window ≤ h .size
   pub small : h .size ≤ 1048576
   pub accurate : h .accuracy ≤ 1000
-  pub planned : Planned rects amounts (tilesAcross h) (h .cut) (tileSide h) (h .lower) (h .upper) (h .window)
+  pub planned : Planned rects amounts (planOf h)
 
 -- the tables of a job that was read, without the zeros behind them, and what stands at its end
 abbrev pub jobRects : Job → List ℕ

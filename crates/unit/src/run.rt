@@ -1,5 +1,6 @@
 // The phases of a job in turn.
 use extremes::Extremes;
+use fill::Plan;
 use fill::Verdict;
 use jobfile::Head;
 use zoom::Quick;
@@ -23,23 +24,21 @@ pub(crate) fn run(head: Head, rects: &[u64], amounts: &[u64]) -> Answer
 {
     let size = head.size;
     let window = head.window;
-    let cut = head.cut;
     let side = jobfile::tile_side(head);
     let tiles = jobfile::tiles_across(head);
     let exact = extremes::exact_run(rects, size, window);
     let greatest = exact.greatest;
     let quick = zoom::quick_run(rects, size, window, head.accuracy, head.levels, greatest);
     let density = zoom::density(window, quick.last.window.area, quick.last.far);
-    let verdict = fill::judge(
-        rects,
-        amounts,
-        tiles,
-        cut,
+    let plan = Plan {
+        across: tiles,
+        cut: head.cut,
         side,
-        head.lower,
-        head.upper,
         window,
-    );
+        lower: head.lower,
+        upper: head.upper,
+    };
+    let verdict = fill::judge(rects, amounts, plan);
     Answer {
         exact,
         quick,

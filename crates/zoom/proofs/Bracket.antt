@@ -15,7 +15,7 @@ use Rattle.geometry.specs.declared.Sense.{Sense}
 use Rattle.geometry.specs.declared.Sense.the-variants.{Greatest, Least}
 use Rattle.geometry.specs.Extreme.{better, spotAt, replaced, bestInRows}
 use Rattle.geometry.specs.Count.{sum, one-if}
-use Rattle.geometry.specs.Layout.{covered, coveredArea, window}
+use Rattle.geometry.specs.Layout.{covered, coveredArea, windowBox}
 use Rattle.geometry.proofs.Counting.{le-or-lt, sum-cong, sum-zero, box-const}
 use Rattle.geometry.proofs.Totals.{small-product}
 use Rattle.geometry.proofs.Overlaps.{area-small}
@@ -47,7 +47,7 @@ start-placed rs n w t b p a =
     (record { area = refl; across = start-fits n w t (a .column) p (a .across); down = start-fits n w t (a .row) p (a .down) })
 
 extreme-placed : (s : Sense) (rs : List Rect) (n w : ℕ) → Placed rs n w (extreme s rs n w)
-extreme-placed s rs n w = let m = extreme-over-all s rs n w in record { area = m .area-is; across = m .x-in; down = m .y-in }
+extreme-placed s rs n w = let m = extreme-over-all s rs n w in record { area = m .area-is; across = m .position .across; down = m .position .down }
 
 placed-no-better : (s : Sense) (rs : List Rect) (n w : ℕ) (b : Spot) → Placed rs n w b → NoBetter s (b .area) (extreme s rs n w .area)
 placed-no-better s rs n w b p = rw (p .area) (extreme-best s rs n w .none-better (b .x) (b .y) (position n w (b .x) (b .y) (p .across) (p .down)))
@@ -329,13 +329,13 @@ level-nothing s n w t = λ i. record { window = named i; far = best-nothing s (f
     best = bestStart s (windowArea [] w) t k
 
     flat : best .area ≡ 0
-    flat = best-nothing s (windowArea [] w) t k (λ x y. nothing-covered (window w x y))
+    flat = best-nothing s (windowArea [] w) t k (λ x y. nothing-covered (windowBox w x y))
 
     corner : first ≡ record { area = 0; x = 0; y = 0 }
-    corner = λ i. record { area = nothing-covered (window w 0 0) i; x = 0; y = 0 }
+    corner = λ i. record { area = nothing-covered (windowBox w 0 0) i; x = 0; y = 0 }
 
     named : replaced s first best ≡ record { area = 0; x = 0; y = 0 }
-    named = step-skip s first best (ap₂ (λ (a b : ℕ). better s a b) flat (nothing-covered (window w 0 0)) ∙ better-self s 0) ∙ corner
+    named = step-skip s first best (ap₂ (λ (a b : ℕ). better s a b) flat (nothing-covered (windowBox w 0 0)) ∙ better-self s 0) ∙ corner
 
     unkept : (i j : ℕ) → one-if (better s (farArea s [] n w t (i * t) (j * t)) (best .area)) ≡ 0
     unkept i j = ap₂ (λ (a b : ℕ). one-if (better s a b)) (far-nothing s n w t (i * t) (j * t)) flat ∙ ap one-if (better-self s 0)
@@ -378,7 +378,7 @@ pub record LevelSmall (v : Level) : Type 0 where
   pub far : v .far ≤ 1099511627776
 
 placed-small : (rs : List Rect) (n w : ℕ) (b : Spot) → n ≤ 1048576 → w ≤ n → Placed rs n w b → b .area ≤ 1099511627776
-placed-small rs n w b h k p = rw (p .area) (box-small rs (window w (b .x) (b .y)) (omega arith) (omega arith))
+placed-small rs n w b h k p = rw (p .area) (box-small rs (windowBox w (b .x) (b .y)) (omega arith) (omega arith))
 
 pub level-small : (s : Sense) (rs : List Rect) (n w t : ℕ) (b : Spot) → n ≤ 1048576 → w ≤ n → 1 ≤ t → AtStart rs n w t b → LevelSmall (levelOf s rs n w t b)
 unfolding levelOf

@@ -16,7 +16,7 @@ use Rattle.geometry.specs.declared.Spot.{Spot}
 use Rattle.geometry.specs.declared.Sense.{Sense}
 use Rattle.geometry.specs.declared.Sense.the-variants.{Greatest}
 use Rattle.geometry.specs.Count.{one-if}
-use Rattle.geometry.specs.Layout.{covered, coveredArea, window}
+use Rattle.geometry.specs.Layout.{covered, coveredArea, windowBox}
 use Rattle.geometry.specs.Extreme.{better, spotAt, replaced, bestInRows}
 use Rattle.geometry.proofs.Counting.{le-or-lt, box-within}
 use Rattle.geometry.proofs.Extremes.{step-skip}
@@ -151,7 +151,7 @@ passed-over rs n w i j x y x′ y′ h ex ey l s =
         le-trans (box-within (bloated n w t x y) (bloated n w (levelTile w i) x′ y′) area (l .left) (l .low) (l .right) (l .high)) (le-trans s grows)
 
     standard : windowArea rs w x y ≤ coveredArea rs (bloated n w t x y)
-    standard = box-within (window w x y) (bloated n w t x y) area (omega arith) (omega arith) (omega arith) (omega arith)
+    standard = box-within (windowBox w x y) (bloated n w t x y) area (omega arith) (omega arith) (omega arith) (omega arith)
 
 -- C may be sought from F on: the best window lies in the far window of its own start
 pub far-from-best : (s : Sense) (rs : List Rect) (n w t : ℕ) (b : Spot) → 1 ≤ t → w ≤ n → AtStart rs n w t b →

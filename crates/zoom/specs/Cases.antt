@@ -3,7 +3,8 @@ use Prim.Native.Nat.{ℕ}
 use mathlib.Core.List.{List, [], _∷_}
 use Rattle.geometry.specs.declared.Sense.the-variants.{Greatest}
 use Rattle.geometry.specs.Extreme.{spotNumbers}
-use Rattle.geometry.specs.Cases.{Row, row, shapesA}
+use Rattle.geometry.specs.Row.{Row, row}
+use Rattle.geometry.specs.JobA.{shapesA}
 use Rattle.zoom.specs.declared.Level.{Level}
 use Rattle.zoom.specs.declared.Quick.{Quick}
 use Rattle.zoom.specs.Run.{levelAt, endNumber, quickRun}

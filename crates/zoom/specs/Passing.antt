@@ -2,7 +2,7 @@
 -- no contract of a public function names it, and the definition of the run passes nothing over.
 use Prim.Native.Nat.{ℕ, zero, suc, _+_, _*_, _/_, _<_}
 use mathlib.Core.Path.{_≡_}
-use mathlib.Core.Bool.{false, not}
+use mathlib.Core.Bool.{not}
 use mathlib.Core.List.{List}
 use lib.ListN.{getD, set}
 use Rattle.geometry.specs.declared.Rect.{Rect}
@@ -10,10 +10,7 @@ use Rattle.geometry.specs.declared.Sense.{Sense}
 use Rattle.geometry.specs.Count.{one-if}
 use Rattle.geometry.specs.Extreme.{better}
 use Rattle.zoom.specs.Run.{startsOn, farArea}
-
--- an area is no better than the one that stands
-abbrev pub NoBetter : Sense → ℕ → ℕ → Type 0
-NoBetter s new old = better s new old ≡ false
+pub use Rattle.geometry.specs.Extreme.{NoBetter}
 
 -- the flag of a start: 1 where its far area is no better than the level's best window, else 0
 abbrev pub flagOf : Sense → (best far : ℕ) → ℕ

@@ -7,7 +7,7 @@ use Rattle.fill.proofs.tile_box.Statement.{statement}
 use Rattle.fill.proofs.tile_box.Tie as tie
 
 returns : tie.Need-returns
-returns c = same-box refl refl (sym (suc-mul (c .args .i) (c .args .d))) (sym (suc-mul (c .args .j) (c .args .d)))
+returns c = same-box refl refl (sym (suc-mul (c .args .i) (c .args .side))) (sym (suc-mul (c .args .j) (c .args .side)))
 
 pub tile-box-spec : {M : Type 1} → statement M
 tile-box-spec = tie.close (tie.spec (λ c. search needs) (λ c. search needs) (λ c. search needs) (λ c. search needs) returns)

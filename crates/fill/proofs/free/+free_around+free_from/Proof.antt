@@ -47,17 +47,17 @@ around-fits t c =
     let s = c .before .before .before .before .before in
     let a = s .args in
     parts-fit (a .gap) (a .rects .now) (a .at) (a .b) (a .m) (c .before .before .before .free-from .result) (c .before .before .free-from2 .result)
-    (c .before .free-from3 .result) (c .free-from4 .result) (s .pre .1 .1 .0) (s .pre .1 .1 .1) (c .before .before .before .free-from .ensures)
+    (c .before .free-from3 .result) (c .free-from4 .result) (s .pre .1 .small) (s .pre .1 .within) (c .before .before .before .free-from .ensures)
     (c .before .before .free-from2 .ensures) (c .before .free-from3 .ensures) (c .free-from4 .ensures)
 
 pub +free-around+free-from-spec : {M : Type 1} → statement M
 +free-around+free-from-spec =
     close μ-around μ-free
     (λ t. around-lts.spec (free-below t, free.Post) (around-at t) around.Post
-    (λ c κs. let s = c .before in (omega arith, (s .pre .1 .0, part-small _ _ _ _ (s .pre .1 .1 .0) (omega arith) (omega arith))))
-    (λ c κs. let s = c .before .before in (omega arith, (s .pre .1 .0, part-small _ _ _ _ (s .pre .1 .1 .0) (omega arith) (omega arith))))
-    (λ c κs. let s = c .before .before .before in (omega arith, (s .pre .1 .0, part-small _ _ _ _ (s .pre .1 .1 .0) (omega arith) (omega arith))))
-    (λ c κs. let s = c .before .before .before .before in (omega arith, (s .pre .1 .0, part-small _ _ _ _ (s .pre .1 .1 .0) (omega arith) (omega arith))))
+    (λ c κs. let s = c .before in (omega arith, (s .pre .1 .place, part-small _ _ _ _ (s .pre .1 .small) (omega arith) (omega arith))))
+    (λ c κs. let s = c .before .before in (omega arith, (s .pre .1 .place, part-small _ _ _ _ (s .pre .1 .small) (omega arith) (omega arith))))
+    (λ c κs. let s = c .before .before .before in (omega arith, (s .pre .1 .place, part-small _ _ _ _ (s .pre .1 .small) (omega arith) (omega arith))))
+    (λ c κs. let s = c .before .before .before .before in (omega arith, (s .pre .1 .place, part-small _ _ _ _ (s .pre .1 .small) (omega arith) (omega arith))))
     (λ c. omega (arith, around-fits t c))
     (λ c. omega (arith, around-fits t c))
     (λ c. omega (arith, around-fits t c))
@@ -75,7 +75,7 @@ pub +free-around+free-from-spec : {M : Type 1} → statement M
     (λ c κs.
     let small = c .before .before .before .before .pre .1 .1 in
     let full = full-box _ _ (c .before .before .is-empty .ensures) (c .before .if1 .left) in
-    ((le-of-lt (full .0), le-of-lt (full .1)), (small .right, small .high)))
+    record { across = le-of-lt (full .0); up = le-of-lt (full .1); right = small .right; high = small .high })
     (λ c. end-free _ _ _ _ _ (c .before .if2 .taken) (c .size .ensures))
     (λ c κs. (c .if2 .left, c .before .before .before .before .pre .1 .1))
     (λ c κs. search needs)
@@ -87,7 +87,8 @@ pub +free-around+free-from-spec : {M : Type 1} → statement M
     (λ c. omega arith)
     (λ c κs.
     let s = c .before .before .before .before .before .before .before in
-    (omega arith, (omega arith, (s .pre .1 .1, meeting-within _ _ _ _ (c .before .before .hit-at .ensures) (c .before .is-empty2 .ensures) (c .if3 .left)))))
+    let inside = meeting-within _ _ _ _ (c .before .before .hit-at .ensures) (c .before .is-empty2 .ensures) (c .if3 .left) in
+    (omega arith, record { place = omega arith; small = s .pre .1 .1; within = inside }))
     (λ c.
     cut-free _ _ _ _ _ _ _ (c .before .before .before .before .if2 .left) (c .before .before .before .hit-at .ensures) (c .before .before .is-empty2 .ensures)
     (c .before .if3 .left) (c .free-around .ensures)))

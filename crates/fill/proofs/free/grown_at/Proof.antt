@@ -8,10 +8,10 @@ use Rattle.fill.proofs.free.grown_at.Statement.{statement}
 use Rattle.fill.proofs.free.grown_at.Tie as tie
 
 add-t17 : tie.Need-add-t17
-add-t17 c = let start = c .before .before .before .before .before .before in omega (arith, start .pre .1 .1 (start .args .at + 2))
+add-t17 c = let start = c .before .before .before .before .before .before in omega (arith, start .pre .numbers (start .args .at + 2))
 
 add-t22 : tie.Need-add-t22
-add-t22 c = let start = c .before .before .before .before .before .before .before in omega (arith, start .pre .1 .1 (start .args .at + 3))
+add-t22 c = let start = c .before .before .before .before .before .before .before in omega (arith, start .pre .numbers (start .args .at + 3))
 
 returns : tie.Need-returns
 returns c = same-box (c .before .before .before .before .less .ensures) (c .before .before .less2 .ensures) refl refl

@@ -10,4 +10,4 @@ returns : tie.Need-returns
 returns c = c .meet .ensures ∙ ap (λ (r : Rect). meeting r (c .before .before .before .args .b)) (c .before .grown-at .ensures)
 
 pub hit-at-spec : {M : Type 1} → statement M
-hit-at-spec = tie.close (tie.spec (λ c κs. search needs) (λ c κs. search needs) returns)
+hit-at-spec = tie.close (tie.spec (λ c κs. let s = c .before .pre in record { place = s .0; numbers = s .1 .numbers; narrow = s .1 .narrow }) (λ c κs. search needs) returns)

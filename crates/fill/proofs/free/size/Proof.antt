@@ -6,7 +6,7 @@ use Rattle.fill.proofs.free.size.Statement.{statement}
 use Rattle.fill.proofs.free.size.Tie as tie
 
 mul-result : tie.Need-mul-result
-mul-result c = let start = c .before .before in omega (arith, size-fits (start .args .b) (start .pre .1 .0) (start .pre .1 .1))
+mul-result c = let start = c .before .before in omega (arith, size-fits (start .args .b) (start .pre .right) (start .pre .high))
 
 pub size-spec : {M : Type 1} → statement M
 size-spec = tie.close (tie.spec (λ c. search needs) (λ c. search needs) mul-result (λ c. search needs))

@@ -13,7 +13,7 @@ use Rattle.fill.proofs.judging.failing_in_row.Tie as tie
 
 abbrev Inv-loop : tie.InvT-loop
 Inv-loop loads rule margin j last i₀ i =
-    Searched (λ x. failingBy (numberAt loads (rule .n)) (rule .n) (rule .r) (rule .low) (rule .high) margin x j) last i
+    Searched (λ x. failingBy (numberAt loads (rule .across)) rule margin x j) last i
 
 abbrev μ-loop : tie.MeasureT-loop
 μ-loop loads rule margin j last i₀ i = last + 1 - i

@@ -13,7 +13,7 @@ use Rattle.fill.proofs.judging.first_failing.Tie as tie
 
 abbrev Inv-loop : tie.InvT-loop
 Inv-loop loads rule margin last j₀ j =
-    Searched (λ y. failingInRow (failingBy (numberAt loads (rule .n)) (rule .n) (rule .r) (rule .low) (rule .high) margin) y (suc (rule .n - rule .r))) last j
+    Searched (λ y. failingInRow (failingBy (numberAt loads (rule .across)) rule margin) y (suc (rule .across - rule .cut))) last j
 
 abbrev μ-loop : tie.MeasureT-loop
 μ-loop loads rule margin last j₀ j = last + 1 - j

@@ -7,8 +7,8 @@ use Rattle.fill.proofs.Windows.{place-within}
 use Rattle.fill.proofs.judging.load_of.Statement.{statement}
 use Rattle.fill.proofs.judging.load_of.Tie as tie
 
-within : (c : tie.Start) → c .args .j * c .args .n + c .args .i < length (c .args .loads .now)
-within c = let a = c .args in place-within (a .n) (a .i) (a .j) (length (a .loads .now)) (c .pre .0 .0) (c .pre .0 .1) (c .pre .1 .full)
+within : (c : tie.Start) → c .args .j * c .args .across + c .args .i < length (c .args .loads .now)
+within c = let a = c .args in place-within (a .across) (a .i) (a .j) (length (a .loads .now)) (c .pre .0) (c .pre .1 .full)
 
 pub load-of-spec : {M : Type 1} → statement M
 load-of-spec =

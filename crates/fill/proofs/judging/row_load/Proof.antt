@@ -12,10 +12,11 @@ use Rattle.fill.proofs.judging.row_load.Statement.{statement}
 use Rattle.fill.proofs.judging.row_load.Tie as tie
 
 abbrev Inv-loop : tie.InvT-loop
-Inv-loop loads n j x1 x2 total₀ i₀ total i = total + span i x2 (λ v. numberAt loads n v j) ≡ span x1 x2 (λ v. numberAt loads n v j)
+Inv-loop loads across j x1 x2 total₀ i₀ total i =
+    total + span i x2 (λ v. numberAt loads across v j) ≡ span x1 x2 (λ v. numberAt loads across v j)
 
 abbrev μ-loop : tie.MeasureT-loop
-μ-loop loads n j x1 x2 total₀ i₀ total i = x2 - i
+μ-loop loads across j x1 x2 total₀ i₀ total i = x2 - i
 
 add-total : tie.Need-add-total Inv-loop μ-loop
 add-total c =
@@ -24,22 +25,22 @@ add-total c =
     let at = c .before .before .loop in
     omega (
       arith,
-      span-room (λ v. numberAt (a .loads .now) (a .n) v (a .j)) (a .x1) (a .x2) (at .total) (at .i) (c .load-of .result) 1125899906842624 (at .inv)
-          (c .before .loop-test .taken) (c .load-of .ensures) (row-light (a .loads .now) (a .n) (a .j) (a .x1) (a .x2) (s .pre .1) (s .pre .0 .0) (s .pre .0 .1)),
+      span-room (λ v. numberAt (a .loads .now) (a .across) v (a .j)) (a .x1) (a .x2) (at .total) (at .i) (c .load-of .result) 1125899906842624 (at .inv)
+          (c .before .loop-test .taken) (c .load-of .ensures) (row-light (a .loads .now) (a .across) (a .j) (a .x1) (a .x2) (s .pre .1) (s .pre .0)),
     )
 
 loop-again : tie.Need-loop-again Inv-loop μ-loop
 loop-again c =
     let a = c .before .before .before .before .args in
     let at = c .before .before .loop in
-    span-next (λ v. numberAt (a .loads .now) (a .n) v (a .j)) (a .x1) (a .x2) (at .total) (at .i) (c .load-of .result) (at .inv) (c .before .loop-test .taken)
+    span-next (λ v. numberAt (a .loads .now) (a .across) v (a .j)) (a .x1) (a .x2) (at .total) (at .i) (c .load-of .result) (at .inv) (c .before .loop-test .taken)
     (c .load-of .ensures)
 
 returns : tie.Need-returns Inv-loop μ-loop
 returns c =
     let a = c .before .before .before .args in
     let at = c .before .loop in
-    span-end (λ v. numberAt (a .loads .now) (a .n) v (a .j)) (a .x1) (a .x2) (at .total) (at .i) (at .inv) (c .loop-test .left)
+    span-end (λ v. numberAt (a .loads .now) (a .across) v (a .j)) (a .x1) (a .x2) (at .total) (at .i) (at .inv) (c .loop-test .left)
 
 pub row-load-spec : {M : Type 1} → statement M
 row-load-spec =

@@ -1,20 +1,19 @@
 -- `fill::tiling::set_loads` meets its contract. The loop's invariant: the table is filled up to t. The measure is what is left of the tiles.
 -- Assumes nothing.
-use Prim.Native.Nat.{_-_, _*_, _/_, _%_, _≤_}
+use Prim.Native.Nat.{_-_, _*_, _≤_}
 use native.Mathlib.Omega.{arith}
 use borrow.Author.Needs.{needs}
 use Rattle.geometry.specs.Layout.{rectsOf}
-use Rattle.fill.specs.Judge.{load}
-use Rattle.fill.specs.Windows.{Filled}
+use Rattle.fill.specs.Windows.{loadOf, Filled}
 use Rattle.fill.proofs.Loads.{filled-start, filled-next, filled-end}
 use Rattle.fill.proofs.tiling.set_loads.Statement.{statement}
 use Rattle.fill.proofs.tiling.set_loads.Tie as tie
 
 abbrev Inv-loop : tie.InvT-loop
-Inv-loop rects amounts n d out₀ count t₀ out t = (t ≤ n * n) × Filled (λ k. load (rectsOf rects) amounts n d (k % n) (k / n)) out₀ out t
+Inv-loop rects amounts plan out₀ count t₀ out t = (t ≤ plan .across * plan .across) × Filled (loadOf (rectsOf rects) amounts plan) out₀ out t
 
 abbrev μ-loop : tie.MeasureT-loop
-μ-loop rects amounts n d out₀ count t₀ out t = n * n - t
+μ-loop rects amounts plan out₀ count t₀ out t = plan .across * plan .across - t
 
 loop-again : tie.Need-loop-again Inv-loop μ-loop
 loop-again c =

@@ -1,8 +1,7 @@
 -- Cases with their answers: a row has what the definitions give and what is stated. A table of rows is proved by one computation.
 use Prim.Native.Nat.{ℕ}
 use Prim.Native.String.{String}
-use mathlib.Core.List.{List, [], _∷_, map}
-use Rattle.geometry.specs.declared.Rect.{Rect}
+use mathlib.Core.List.{List, map}
 
 pub record Row : Type 0 where
   pub name : String
@@ -17,7 +16,3 @@ foundIn rows = map (λ r. r .found) rows
 
 abbrev pub statedIn : List Row → List (List ℕ)
 statedIn rows = map (λ r. r .stated) rows
-
--- job A of document 01: N 8, W 4, R 2, B 1 and one rectangle
-abbrev pub shapesA : List Rect
-shapesA = record { x1 = 3; y1 = 3; x2 = 5; y2 = 5 } ∷ []
