@@ -24,8 +24,8 @@ so-far-next : (f : List ℕ → ℕ) (t : List ℕ) (total i k v : ℕ) → SoFa
     i + k ≤ length t → SoFar f t (total + v) (i + k)
 so-far-next f t total i k v s e h p l = record { whole = omega (arith, e, s .whole); small = omega (arith, s .small); within = l }
 
-so-far-end : (f : List ℕ → ℕ) (t : List ℕ) (total i : ℕ) → SoFar f t total i → f (drop i t) ≡ 0 → total ≡ f t
-so-far-end f t total i s e = omega (arith, e, s .whole)
+so-limit : (f : List ℕ → ℕ) (t : List ℕ) (total i : ℕ) → SoFar f t total i → f (drop i t) ≡ 0 → total ≡ f t
+so-limit f t total i s e = omega (arith, e, s .whole)
 
 pub small-product : (a b : ℕ) → a ≤ 1048576 → b ≤ 1048576 → a * b ≤ 1099511627776
 small-product a b h k = mul-le-mul h k
@@ -57,7 +57,7 @@ pub overlaps-end : (t : List ℕ) (b : Rect) (total i : ℕ) → Drawn t → SoF
     total ≡ coveredArea (rectsOf t) b
 unfolding overlapSum
 overlaps-end t b total i d s h =
-    so-far-end (λ s. overlapSum (rectsOf s) b) t total i s (ap (λ (rs : List Rect). overlapSum rs b) (rects-end t i h))
+    so-limit (λ s. overlapSum (rectsOf s) b) t total i s (ap (λ (rs : List Rect). overlapSum rs b) (rects-end t i h))
     ∙ sym (overlap-is-area (rectsOf t) b (d .apart))
 
 -- what one rectangle of a strip has between two columns
@@ -87,4 +87,4 @@ short-strip (a ∷ b ∷ c ∷ s) x1 x2 h = absurd (omega arith)
 
 pub terms-end : (t : List ℕ) (x1 x2 total i : ℕ) → SoFar (λ s. stripSum s x1 x2) t total i → length t ≤ i + 2 → total ≡ stripSum t x1 x2
 terms-end t x1 x2 total i s h =
-    so-far-end (λ s. stripSum s x1 x2) t total i s (short-strip (drop i t) x1 x2 (omega (arith, length-drop i t)))
+    so-limit (λ s. stripSum s x1 x2) t total i s (short-strip (drop i t) x1 x2 (omega (arith, length-drop i t)))

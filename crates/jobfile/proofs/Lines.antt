@@ -242,10 +242,10 @@ ended s line rects amounts k Done =
     job n r a = record { fault = 0; line = 0; head = s .head; count = n; rects = r; amounts = a }
 
 -- the end of the file
-pub so-far-end : (file : List ℕ) (s : State) (rects amounts : List ℕ) (line at n : ℕ) → SoFar file s rects amounts line at → length file ≤ at →
+pub so-limit : (file : List ℕ) (s : State) (rects amounts : List ℕ) (line at n : ℕ) → SoFar file s rects amounts line at → length file ≤ at →
     n ≡ endFault (s .turn) → jobOf (record { fault = n; line = line; state = s }) rects amounts ≡ asJob (readLines nothing 1 (parts file))
 unfolding parts readLines
-so-far-end file s rects amounts line at n k h e =
+so-limit file s rects amounts line at n k h e =
     ap (λ (m : ℕ). jobOf (record { fault = m; line = line; state = s }) rects amounts) e
     ∙ ended s line rects amounts (k .held) (s .turn)
     ∙ ap asJob (sym (k .whole ∙ ap (λ (t : List ℕ). readLines (standing s rects amounts) line (parts t)) (drop-of-length-le file h)))

@@ -21,14 +21,14 @@ fn greatest_area(head: Head, rects: &[u64], amounts: &[u64]) -> u64
 // The exact and the quick run: the ceiling.
 fn ceiling(head: Head, rects: &[u64], amounts: &[u64]) -> u64
     requires { ⌜ Ready head (now rects) (now amounts) ⌝ }
-    ensures { λ r. ⌜ r ≡ answerOf (standingOf head (now (rects .entry)) (now (amounts .entry))) .quick .last .far ⌝ }
+    ensures { λ r. ⌜ r ≡ answerOf (standingOf head (now (rects .entry)) (now (amounts .entry))) .quick .last .limit ⌝ }
 {
     let size = head.size;
     let window = head.window;
     let exact = extremes::exact_run(rects, size, window);
     let greatest = exact.greatest;
     let quick = zoom::quick_run(rects, size, window, head.accuracy, head.levels, greatest);
-    quick.last.far
+    quick.last.limit
 }
 
 fn number_of(v: Verdict) -> u64

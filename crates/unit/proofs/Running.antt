@@ -27,17 +27,17 @@ module _ (h : Head) (rects amounts : List ℕ) where
 
   -- what forming the density asks
   pub bracket-small : Ready h rects amounts → (q : Quick) → q ≡ quick →
-      (1 ≤ h .window) × (h .window ≤ 1048576) × (q .last .window .area ≤ 1099511627776) × (q .last .far ≤ 1099511627776)
+      (1 ≤ h .window) × (h .window ≤ 1048576) × (q .last .named .area ≤ 1099511627776) × (q .last .limit ≤ 1099511627776)
   bracket-small r q e =
       let s = quick-run-small Greatest (rectsOf rects) (h .size) (h .window) (h .accuracy) (h .levels) (r .some-window) (r .window-fits) (r .small) in (
         r .some-window,
         omega (arith, r .window-fits, r .small),
-        subst⁻¹ (λ (p : Quick). p .last .window .area ≤ 1099511627776) e (s .window),
-        subst⁻¹ (λ (p : Quick). p .last .far ≤ 1099511627776) e (s .far),
+        subst⁻¹ (λ (p : Quick). p .last .named .area ≤ 1099511627776) e (s .named),
+        subst⁻¹ (λ (p : Quick). p .last .limit ≤ 1099511627776) e (s .limit),
       )
 
   pub answer-is : (x : Extremes) (q : Quick) (d : ℕ) (v : Verdict) (tiles side : ℕ) → x ≡ exactRun (rectsOf rects) (h .size) (h .window) → q ≡ quick →
-      d ≡ density (h .window) (q .last .window .area) (q .last .far) →
+      d ≡ density (h .window) (q .last .named .area) (q .last .limit) →
       v ≡ verdictOf (rectsOf rects) amounts tiles (h .cut) side (h .lower) (h .upper) (h .window) → tiles ≡ tilesAcross h → side ≡ tileSide h →
       _≡_ {A = Answer} (record { exact = x; quick = q; density = d; verdict = v }) (answerOf (standingOf h rects amounts))
   unfolding answerOf

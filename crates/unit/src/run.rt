@@ -29,7 +29,7 @@ pub fn run(head: Head, rects: &[u64], amounts: &[u64]) -> Answer
     let exact = extremes::exact_run(rects, size, window);
     let greatest = exact.greatest;
     let quick = zoom::quick_run(rects, size, window, head.accuracy, head.levels, greatest);
-    let density = zoom::density(window, quick.last.window.area, quick.last.far);
+    let density = zoom::density(window, quick.last.named.area, quick.last.limit);
     let verdict = fill::judge(
         rects,
         amounts,

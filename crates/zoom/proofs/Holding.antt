@@ -65,6 +65,6 @@ meets-narrowed s strip g t i more before after r z e room =
     taken : take r after ≡ narrowed strip from to
     taken = front-take before (narrowed strip from to) after r e
 
--- the last of the starts that a part serves may lie past the layout, by 31 tiles at most
+-- the last of the starts that a part serves may lie past the layout, by 31 steps at most
 pub starts-further : (g : Grid) (i : ℕ) → Sized g → i < g .starts → (i + 31) * g .t + g .w ≤ g .n + 31 * g .w
-starts-further g i z h = omega (arith, start-inside g i z h, z .tiles)
+starts-further g i z h = omega (arith, start-inside g i z h, z .step-fits)

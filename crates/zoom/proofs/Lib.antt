@@ -1,5 +1,5 @@
 pub mod Folds
-pub mod Tiles
+pub mod Steps
 pub mod Starts
 pub mod Bracket
 pub mod PassOver

@@ -11,7 +11,7 @@ pub record EndsSmall (s : Sense) (v : Level) : Type 0 where
   pub low : lowEnd s v ≤ 1099511627776
   pub high : highEnd s v ≤ 1099511627776
 
-pub ends-small : (s : Sense) (v : Level) → v .window .area ≤ 1099511627776 → v .far ≤ 1099511627776 → EndsSmall s v
+pub ends-small : (s : Sense) (v : Level) → v .named .area ≤ 1099511627776 → v .limit ≤ 1099511627776 → EndsSmall s v
 ends-small Greatest v h k = record { low = h; high = k }
 ends-small Least v h k = record { low = k; high = h }
 

@@ -21,7 +21,7 @@ use Rattle.geometry.specs.Extreme.{better, spotAt, replaced, bestInRows}
 use Rattle.geometry.proofs.Counting.{le-or-lt, box-within}
 use Rattle.geometry.proofs.Extremes.{step-skip}
 use Rattle.extremes.specs.Exact.{windowArea}
-use Rattle.zoom.specs.Run.{levelTile, startsOn, bloated, farArea, levelOf, levelAt}
+use Rattle.zoom.specs.Run.{levelStep, startsOn, bloated, farArea, levelOf, levelAt}
 use Rattle.zoom.specs.Passing.{NoBetter, flagOf, flagsInRow, flagsInRows, Harmless}
 use Rattle.zoom.proofs.Folds.{no-better-trans, rows-see, rows-forget}
 use Rattle.zoom.specs.Grid.{AtStart}
@@ -126,40 +126,40 @@ pub record AddsNothing (rs : List Rect) (n w t x y f : ℕ) : Type 0 where
 
 -- a start (x, y) of level j may be passed over if its bloated window lies inside one of an earlier level i of area at most the F of that level
 pub passed-over : (rs : List Rect) (n w i j x y x′ y′ : ℕ) → i ≤ j → x + w ≤ n → y + w ≤ n →
-    Within (bloated n w (levelTile w j) x y) (bloated n w (levelTile w i) x′ y′) →
-    coveredArea rs (bloated n w (levelTile w i) x′ y′) ≤ levelAt Greatest rs n w i .window .area →
-    AddsNothing rs n w (levelTile w j) x y (levelAt Greatest rs n w j .window .area)
+    Within (bloated n w (levelStep w j) x y) (bloated n w (levelStep w i) x′ y′) →
+    coveredArea rs (bloated n w (levelStep w i) x′ y′) ≤ levelAt Greatest rs n w i .named .area →
+    AddsNothing rs n w (levelStep w j) x y (levelAt Greatest rs n w j .named .area)
 passed-over rs n w i j x y x′ y′ h ex ey l s =
     record {
       small = small;
       floor = λ b k. step-skip Greatest b (spotAt (windowArea rs w) x y) (le-ltb (b .area) (windowArea rs w x y) (omega (arith, small, standard, k)));
       ceiling = λ b k. step-skip Greatest b (spotAt (farArea Greatest rs n w t) x y) (le-ltb (b .area) (coveredArea rs (bloated n w t x y)) (omega (arith, small, k)));
-      kept = ap one-if (le-ltb (levelAt Greatest rs n w j .window .area) (coveredArea rs (bloated n w t x y)) small);
+      kept = ap one-if (le-ltb (levelAt Greatest rs n w j .named .area) (coveredArea rs (bloated n w t x y)) small);
     }
   where
     t : ℕ
-    t = levelTile w j
+    t = levelStep w j
 
     area : ℕ → ℕ → ℕ
     area x y = one-if (covered rs x y)
 
-    grows : levelAt Greatest rs n w i .window .area ≤ levelAt Greatest rs n w j .window .area
+    grows : levelAt Greatest rs n w i .named .area ≤ levelAt Greatest rs n w j .named .area
     grows = ltb-false _ _ (floor-stays Greatest rs n w i j h)
 
-    small : coveredArea rs (bloated n w t x y) ≤ levelAt Greatest rs n w j .window .area
+    small : coveredArea rs (bloated n w t x y) ≤ levelAt Greatest rs n w j .named .area
     small =
-        le-trans (box-within (bloated n w t x y) (bloated n w (levelTile w i) x′ y′) area (l .left) (l .low) (l .right) (l .high)) (le-trans s grows)
+        le-trans (box-within (bloated n w t x y) (bloated n w (levelStep w i) x′ y′) area (l .left) (l .low) (l .right) (l .high)) (le-trans s grows)
 
     standard : windowArea rs w x y ≤ coveredArea rs (bloated n w t x y)
     standard = box-within (window w x y) (bloated n w t x y) area (omega arith) (omega arith) (omega arith) (omega arith)
 
 -- C may be sought from F on: the best window lies in the far window of its own start
 pub far-from-best : (s : Sense) (rs : List Rect) (n w t : ℕ) (b : Spot) → 1 ≤ t → w ≤ n → AtStart rs n w t b →
-    bestInRows s (farArea s rs n w t) t (startsOn n w t) (startsOn n w t) (levelOf s rs n w t b .window) .area ≡ levelOf s rs n w t b .far
+    bestInRows s (farArea s rs n w t) t (startsOn n w t) (startsOn n w t) (levelOf s rs n w t b .named) .area ≡ levelOf s rs n w t b .limit
 unfolding levelOf
 far-from-best s rs n w t b p q a =
-    rows-forget s far t k k (levelOf s rs n w t b .window) (spotAt far 0 0) (seen (level-at-start s rs n w t b a))
-    (rw (zero-mul t) at (rows-see s far t k k (levelOf s rs n w t b .window) 0 0 (omega arith) (omega arith)))
+    rows-forget s far t k k (levelOf s rs n w t b .named) (spotAt far 0 0) (seen (level-at-start s rs n w t b a))
+    (rw (zero-mul t) at (rows-see s far t k k (levelOf s rs n w t b .named) 0 0 (omega arith) (omega arith)))
   where
     k : ℕ
     k = startsOn n w t

@@ -29,7 +29,7 @@ pub starts-small : (g : Grid) → Sized g → g .starts ≤ 1048577
 starts-small g z = omega (arith, z .count, z .small, div-le-self (g .n - g .w) (g .t))
 
 pub start-inside : (g : Grid) (i : ℕ) → Sized g → i < g .starts → i * g .t + g .w ≤ g .n
-start-inside g i z h = omega (arith, start-fits (g .n) (g .w) (g .t) i (z .tile) (rw (z .count) at h), z .inside)
+start-inside g i z h = omega (arith, start-fits (g .n) (g .w) (g .t) i (z .some-step) (rw (z .count) at h), z .inside)
 
 -- the places of the flags of a row, in the level before and in this one
 pub row-above : (g : Grid) (j side : ℕ) → Sized g → j < g .starts → side ≤ 1048577 → j / 2 * side ≤ 1099513724929

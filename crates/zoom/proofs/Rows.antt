@@ -30,7 +30,7 @@ pub record Reads (s : Sense) (f : ℕ → ℕ → ℕ) (g : Grid) (u j : ℕ) (s
   pub small : StripSmall strip
   pub areas : (i : ℕ) → i < g .starts → alongStrip s strip (g .n) (g .w) u (i * g .t) (j * g .t) ≡ f (i * g .t) (j * g .t)
 
--- its sums are the areas of far windows, which with tile side 0 are standard ones
+-- its sums are the areas of far windows, which with step 0 are standard ones
 strip-is-far : (s : Sense) (table : List ℕ) (n w t x y : ℕ) (before after : List ℕ) (r : ℕ) → Drawn table →
     Front before (stripAt s (rectsOf table) n w t y) after r → alongStrip s (take r after) n w t x y ≡ farArea s (rectsOf table) n w t x y
 strip-is-far Greatest table n w t x y before after r d e =
@@ -65,7 +65,7 @@ pub harmless-standard : (s : Sense) (rs : List Rect) (g : Grid) (j : ℕ) (strip
     Spares s (alongStrip s strip (g .n) (g .w) 0) (g .t) (j * g .t) (g .starts) flags (j / 2 * side) best
 harmless-standard s rs g j strip flags side best z k q p i h e =
     rw (q .areas i h)
-    (standard-no-better s rs (g .n) (g .w) (g .t) i j best (z .tile) (z .inside) (rw (z .count) at h) (rw (z .count) at k) (p i (rw (z .count) at h) e))
+    (standard-no-better s rs (g .n) (g .w) (g .t) i j best (z .some-step) (z .inside) (rw (z .count) at h) (rw (z .count) at k) (p i (rw (z .count) at h) e))
 
 pub row-by-strip : (s : Sense) (f : ℕ → ℕ → ℕ) (g : Grid) (u j : ℕ) (strip : List ℕ) (before r : Spot) → Reads s f g u j strip →
     r ≡ bestInRow s (alongStrip s strip (g .n) (g .w) u) (g .t) (j * g .t) (g .starts) before → r ≡ bestInRow s f (g .t) (j * g .t) (g .starts) before

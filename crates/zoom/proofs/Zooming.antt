@@ -23,11 +23,11 @@ use Rattle.zoom.specs.declared.Ending.{Ending}
 use Rattle.zoom.specs.declared.Ending.the-variants.{Over, Open}
 use Rattle.zoom.specs.declared.Grid.{Grid}
 use Rattle.zoom.specs.declared.Far.{Far}
-use Rattle.zoom.specs.Run.{lastLevel, levelTile, startsOn, farArea, levelOf, levelAt, isMet, exactEnd, runFrom, quickRun}
+use Rattle.zoom.specs.Run.{lastLevel, levelStep, startsOn, farArea, levelOf, levelAt, isMet, exactEnd, runFrom, quickRun}
 use Rattle.zoom.specs.Passing.{NoBetter, Harmless, flagsInRows}
 use Rattle.zoom.specs.Grid.{Sized, AtStart, farInRows, endingOf}
 use Rattle.zoom.proofs.Folds.{no-better-trans, rows-stay}
-use Rattle.zoom.proofs.Tiles.{tile-next, tile-halves, tile-positive}
+use Rattle.zoom.proofs.Steps.{step-next, step-halves, step-positive}
 use Rattle.zoom.proofs.Starts.{start-stays}
 use Rattle.zoom.proofs.Bracket.{first-start, level-searches, level-at-start, floor-of, LevelSmall, level-small}
 use Rattle.zoom.proofs.PassOver.{far-from-best, harmless-first, harmless-next}
@@ -46,37 +46,37 @@ harmless-on s rs g flags side before best e p j k i h q =
 -- what a level answers and leaves in the table of flags
 pub record LevelDone (s : Sense) (rs : List Rect) (n w t : ℕ) (before : Spot) (this : Level) (new new′ : List ℕ) : Type 0 where
   pub answer : this ≡ levelOf s rs n w t before
-  pub flags : new′ ≡ flagsInRows s (this .window .area) (farArea s rs n w t) t (startsOn n w t) (startsOn n w t) new
+  pub flags : new′ ≡ flagsInRows s (this .named .area) (farArea s rs n w t) t (startsOn n w t) (startsOn n w t) new
 
 pub level-done : (s : Sense) (rs : List Rect) (g : Grid) (before best : Spot) (far : Far) (new new′ : List ℕ) → Sized g → AtStart rs (g .n) (g .w) (g .t) before →
     best ≡ bestInRows s (windowArea rs (g .w)) (g .t) (g .starts) (g .starts) before →
     RowsSoFar s (best .area) (farArea s rs (g .n) (g .w) (g .t)) (g .t) (g .starts) (g .starts) (record { bound = best; kept = 0 }) far new new′ →
-    LevelDone s rs (g .n) (g .w) (g .t) before (record { window = best; far = far .bound .area; kept = far .kept }) new new′
+    LevelDone s rs (g .n) (g .w) (g .t) before (record { named = best; limit = far .bound .area; kept = far .kept }) new new′
 unfolding levelOf
 level-done s rs g before best far new new′ z a e r =
     record {
-      answer = λ i. record { window = window-is i; far = far-is i; kept = kept-is i };
+      answer = λ i. record { named = named-is i; limit = far-is i; kept = kept-is i };
       flags = subst (λ (k : ℕ). new′ ≡ flagsInRows s (best .area) (farArea s rs (g .n) (g .w) (g .t)) (g .t) k k new) (z .count) (r .flags);
     }
   where
     level : Level
     level = levelOf s rs (g .n) (g .w) (g .t) before
 
-    window-is : best ≡ level .window
-    window-is =
+    named-is : best ≡ level .named
+    named-is =
         subst (λ (k : ℕ). best ≡ bestInRows s (windowArea rs (g .w)) (g .t) k k before) (z .count) e ∙ sym (level-searches s rs (g .n) (g .w) (g .t) before)
 
-    counted : far ≡ farInRows s (level .window .area) (farArea s rs (g .n) (g .w) (g .t)) (g .t) (startsOn (g .n) (g .w) (g .t)) (startsOn (g .n) (g .w) (g .t))
-        (record { bound = level .window; kept = 0 })
+    counted : far ≡ farInRows s (level .named .area) (farArea s rs (g .n) (g .w) (g .t)) (g .t) (startsOn (g .n) (g .w) (g .t)) (startsOn (g .n) (g .w) (g .t))
+        (record { bound = level .named; kept = 0 })
     counted =
         r .search
-        ∙ ap₂ (λ (b : Spot) (k : ℕ). farInRows s (b .area) (farArea s rs (g .n) (g .w) (g .t)) (g .t) k k (record { bound = b; kept = 0 })) window-is (z .count)
+        ∙ ap₂ (λ (b : Spot) (k : ℕ). farInRows s (b .area) (farArea s rs (g .n) (g .w) (g .t)) (g .t) k k (record { bound = b; kept = 0 })) named-is (z .count)
 
-    far-is : far .bound .area ≡ level .far
+    far-is : far .bound .area ≡ level .limit
     far-is =
         ap (λ (b : Far). b .bound .area) counted
-        ∙ ap (λ (b : Spot). b .area) (far-rows-bound s (level .window .area) (farArea s rs (g .n) (g .w) (g .t)) (g .t) _ _ (record { bound = level .window; kept = 0 }))
-        ∙ far-from-best s rs (g .n) (g .w) (g .t) before (z .tile) (z .inside) a
+        ∙ ap (λ (b : Spot). b .area) (far-rows-bound s (level .named .area) (farArea s rs (g .n) (g .w) (g .t)) (g .t) _ _ (record { bound = level .named; kept = 0 }))
+        ∙ far-from-best s rs (g .n) (g .w) (g .t) before (z .some-step) (z .inside) a
 
     kept-against : ℕ → ℕ
     kept-against f =
@@ -86,7 +86,7 @@ level-done s rs g before best far new new′ z a e r =
     kept-is : far .kept ≡ level .kept
     kept-is =
         ap (λ (b : Far). b .kept) counted
-        ∙ far-rows-kept s (level .window .area) (farArea s rs (g .n) (g .w) (g .t)) (g .t) _ _ (record { bound = level .window; kept = 0 }) ∙ zero-add _
+        ∙ far-rows-kept s (level .named .area) (farArea s rs (g .n) (g .w) (g .t)) (g .t) _ _ (record { bound = level .named; kept = 0 }) ∙ zero-add _
         ∙ ap kept-against (floor-of s rs (g .n) (g .w) (g .t) before a)
 
 -- ---- the run, level by level
@@ -123,10 +123,10 @@ run-over : (s : Sense) (rs : List Rect) (n w e v z left j : ℕ) (q : Quick) →
 unfolding runFrom
 run-over s rs n w e v z zero j q h k =
     let this : Level = levelAt s rs n w j in
-    over-by-tests (isMet s e this) (leb v (suc j)) (leb z j) _ _ (exactEnd s j (this .window) (extreme s rs n w)) _ q (λ _. refl) k
+    over-by-tests (isMet s e this) (leb v (suc j)) (leb z j) _ _ (exactEnd s j (this .named) (extreme s rs n w)) _ q (λ _. refl) k
 run-over s rs n w e v z (suc left) j q h k =
     let this : Level = levelAt s rs n w j in
-    over-by-tests (isMet s e this) (leb v (suc j)) (leb z j) _ _ (exactEnd s j (this .window) (extreme s rs n w)) (runFrom s rs n w e v left (suc j)) q
+    over-by-tests (isMet s e this) (leb v (suc j)) (leb z j) _ _ (exactEnd s j (this .named) (extreme s rs n w)) (runFrom s rs n w e v left (suc j)) q
     (λ l. absurd (omega (arith, leb-true z j l))) k
 
 record RunGoesOn (s : Sense) (rs : List Rect) (n w e v z left j : ℕ) : Type 0 where
@@ -138,7 +138,7 @@ run-open : (s : Sense) (rs : List Rect) (n w e v z left j : ℕ) → j + left �
 unfolding runFrom
 run-open s rs n w e v z zero j h k =
     let this : Level = levelAt s rs n w j in
-    let g = open-by-tests (isMet s e this) (leb v (suc j)) (leb z j) _ _ _ (exactEnd s j (this .window) (extreme s rs n w)) k in
+    let g = open-by-tests (isMet s e this) (leb v (suc j)) (leb z j) _ _ _ (exactEnd s j (this .named) (extreme s rs n w)) k in
     absurd (omega (arith, leb-false z j (g .more)))
 run-open s rs n w e v z (suc left) j h k =
     let this : Level = levelAt s rs n w j in
@@ -149,23 +149,23 @@ run-open s rs n w e v z (suc left) j h k =
 -- each answer of the code by the tests that led to it
 module _ (s : Sense) (e v z j : ℕ) (this : Level) (m : Spot) (met : Bool) (tested : met ≡ isMet s e this) where
   by-tests : (a b c : Bool) → met ≡ a → leb v (suc j) ≡ b → leb z j ≡ c →
-      endTests a b c (record { end = Met; levels = suc j; last = this }) (record { end = Stopped; levels = suc j; last = this })
-      (exactEnd s j (this .window) m)
+      endTests a b c (record { end = Met; done = suc j; last = this }) (record { end = Stopped; done = suc j; last = this })
+      (exactEnd s j (this .named) m)
       ≡ endingOf s e v z j this m
   by-tests a b c h k l = rw (sym h ∙ tested, sym k, sym l)
 
-  pub ends-met : met ≡ true → Over (record { end = Met; levels = j + 1; last = this }) ≡ endingOf s e v z j this m
-  ends-met h = ap (λ (k : ℕ). Over (record { end = Met; levels = k; last = this })) (add-one j) ∙ by-tests true (leb v (suc j)) (leb z j) h refl refl
+  pub ends-met : met ≡ true → Over (record { end = Met; done = j + 1; last = this }) ≡ endingOf s e v z j this m
+  ends-met h = ap (λ (k : ℕ). Over (record { end = Met; done = k; last = this })) (add-one j) ∙ by-tests true (leb v (suc j)) (leb z j) h refl refl
 
-  pub ends-stopped : met ≡ false → v ≤ j + 1 → Over (record { end = Stopped; levels = j + 1; last = this }) ≡ endingOf s e v z j this m
+  pub ends-stopped : met ≡ false → v ≤ j + 1 → Over (record { end = Stopped; done = j + 1; last = this }) ≡ endingOf s e v z j this m
   ends-stopped h k =
-      ap (λ (k : ℕ). Over (record { end = Stopped; levels = k; last = this })) (add-one j)
+      ap (λ (k : ℕ). Over (record { end = Stopped; done = k; last = this })) (add-one j)
       ∙ by-tests false true (leb z j) h (le-leb v (suc j) (omega arith)) refl
 
-  pub ends-exact : (best : Spot) → met ≡ false → j + 1 < v → z ≤ j → best ≡ replaced s (this .window) m →
-      Over (record { end = Exact; levels = j + 2; last = record { window = best; far = m .area; kept = 0 } }) ≡ endingOf s e v z j this m
+  pub ends-exact : (best : Spot) → met ≡ false → j + 1 < v → z ≤ j → best ≡ replaced s (this .named) m →
+      Over (record { end = Exact; done = j + 2; last = record { named = best; limit = m .area; kept = 0 } }) ≡ endingOf s e v z j this m
   ends-exact best h k l r =
-      ap₂ (λ (k : ℕ) (b : Spot). Over (record { end = Exact; levels = k; last = record { window = b; far = m .area; kept = 0 } })) (add-two j) r
+      ap₂ (λ (k : ℕ) (b : Spot). Over (record { end = Exact; done = k; last = record { named = b; limit = m .area; kept = 0 } })) (add-two j) r
       ∙ by-tests false false true h (lt-leb v (suc j) (omega arith)) (le-leb z j l)
 
   pub ends-open : met ≡ false → j + 1 < v → j < z → Open ≡ endingOf s e v z j this m
@@ -181,8 +181,8 @@ pub record RunSoFar (s : Sense) (rs : List Rect) (n w e v z : ℕ) (old new : Li
   pub whole : runFrom s rs n w e v (z - j) j ≡ quickRun s rs n w e v
   pub last : z ≡ lastLevel w
   pub level : j ≤ z
-  pub tile : t ≡ levelTile w j
-  pub named : levelOf s rs n w (levelTile w j) before ≡ levelAt s rs n w j
+  pub step : t ≡ levelStep w j
+  pub follows : levelOf s rs n w (levelStep w j) before ≡ levelAt s rs n w j
   pub start : AtStart rs n w t before
   pub spare : Harmless s rs n w t old side (before .area)
   pub few : side ≤ 1048577
@@ -197,8 +197,8 @@ run-begins s rs n w e v z before h k =
       whole = ap (λ (l : ℕ). runFrom s rs n w e v l 0) left;
       last = h;
       level = omega arith;
-      tile = sym (div-one w);
-      named = ap (λ (b : Spot). levelOf s rs n w (levelTile w 0) b) k;
+      step = sym (div-one w);
+      follows = ap (λ (b : Spot). levelOf s rs n w (levelStep w 0) b) k;
       start = subst (λ (b : Spot). AtStart rs n w w b) (sym k) (subst (λ (t : ℕ). AtStart rs n w t (spotAt (windowArea rs w) 0 0)) (div-one w) (first-start rs n w));
       spare = harmless-first s rs n w w 0 262144 (before .area);
       few = omega arith;
@@ -210,21 +210,21 @@ run-begins s rs n w e v z before h k =
     left = omega arith
 
 module _ (s : Sense) (rs : List Rect) (n w e v z : ℕ) (old new : List ℕ) (before : Spot) (side t j : ℕ) (so-far : RunSoFar s rs n w e v z old new before side t j) (p : 1 ≤ w) where
-  pub run-tile : (1 ≤ t) × (t ≤ w)
-  run-tile =
+  pub run-step : (1 ≤ t) × (t ≤ w)
+  run-step =
       let deep : j ≤ lastLevel w = omega (arith, so-far .level, so-far .last) in
-      (omega (arith, so-far .tile, tile-positive w j p deep), omega (arith, so-far .tile, div-le-self w (2 ^ j)))
+      (omega (arith, so-far .step, step-positive w j p deep), omega (arith, so-far .step, div-le-self w (2 ^ j)))
 
   left-is : j + (z - j) ≡ z
   left-is = omega (arith, so-far .level)
 
   -- what the code answers for this level is level j of the run
   run-level : (this : Level) → this ≡ levelOf s rs n w t before → this ≡ levelAt s rs n w j
-  run-level this h = h ∙ ap (λ (u : ℕ). levelOf s rs n w u before) (so-far .tile) ∙ so-far .named
+  run-level this h = h ∙ ap (λ (u : ℕ). levelOf s rs n w u before) (so-far .step) ∙ so-far .follows
 
-  run-names : (this : Level) → this ≡ levelOf s rs n w t before → levelOf s rs n w (levelTile w (suc j)) (this .window) ≡ levelAt s rs n w (suc j)
+  run-names : (this : Level) → this ≡ levelOf s rs n w t before → levelOf s rs n w (levelStep w (suc j)) (this .named) ≡ levelAt s rs n w (suc j)
   unfolding levelAt
-  run-names this h = ap (λ (u : Level). levelOf s rs n w (levelTile w (suc j)) (u .window)) (run-level this h)
+  run-names this h = ap (λ (u : Level). levelOf s rs n w (levelStep w (suc j)) (u .named)) (run-level this h)
 
   run-ending : (this : Level) (m : Spot) (ending : Ending) → this ≡ levelOf s rs n w t before → m ≡ extreme s rs n w → ending ≡ endingOf s e v z j this m →
       endingOf s e v z j (levelAt s rs n w j) (extreme s rs n w) ≡ ending
@@ -237,15 +237,15 @@ module _ (s : Sense) (rs : List Rect) (n w e v z : ℕ) (old new : List ℕ) (be
   pub run-goes-on : (this : Level) (m : Spot) (ending : Ending) (old′ new′ : List ℕ) (side′ : ℕ) → n ≤ 1048576 →
       LevelDone s rs n w t before this new new′ → m ≡ extreme s rs n w → ending ≡ endingOf s e v z j this m → ending ≡ Open → length new′ ≡ length new →
       old′ ≡ take (length new′) new′ ++ drop (length new′) old → side′ ≡ startsOn n w t →
-      RunSoFar s rs n w e v z old′ new′ (this .window) side′ (t / 2) (j + 1)
+      RunSoFar s rs n w e v z old′ new′ (this .named) side′ (t / 2) (j + 1)
   run-goes-on this m ending old′ new′ side′ small d k l o size copy counted =
       record {
         whole = ap₂ (λ (l i : ℕ). runFrom s rs n w e v l i) less (add-one j) ∙ sym (on .same) ∙ so-far .whole;
         last = so-far .last;
         level = omega (arith, on .more);
-        tile = ap (λ (u : ℕ). u / 2) (so-far .tile) ∙ sym (tile-next w j) ∙ ap (λ (i : ℕ). levelTile w i) (sym (add-one j));
-        named = subst (λ (i : ℕ). levelOf s rs n w (levelTile w i) (this .window) ≡ levelAt s rs n w i) (sym (add-one j)) (run-names this (d .answer));
-        start = start-stays rs n w (t / 2) (this .window) positive (subst (λ (u : ℕ). AtStart rs n w u (this .window)) even stands);
+        step = ap (λ (u : ℕ). u / 2) (so-far .step) ∙ sym (step-next w j) ∙ ap (λ (i : ℕ). levelStep w i) (sym (add-one j));
+        follows = subst (λ (i : ℕ). levelOf s rs n w (levelStep w i) (this .named) ≡ levelAt s rs n w i) (sym (add-one j)) (run-names this (d .answer));
+        start = start-stays rs n w (t / 2) (this .named) positive (subst (λ (u : ℕ). AtStart rs n w u (this .named)) even stands);
         spare = rw (counted, same) spare;
         few = omega (arith, counted, div-le-self (n - w) t);
         old-size = ap length same ∙ size ∙ so-far .new-size;
@@ -264,24 +264,24 @@ module _ (s : Sense) (rs : List Rect) (n w e v z : ℕ) (old new : List ℕ) (be
       even : t ≡ 2 * (t / 2)
       even =
           let deeper : j < lastLevel w = omega (arith, on .more, so-far .last) in
-          omega (arith, so-far .tile, tile-halves w j deeper, tile-next w j)
+          omega (arith, so-far .step, step-halves w j deeper, step-next w j)
 
       positive : 1 ≤ t / 2
-      positive = omega (arith, even, run-tile .0)
+      positive = omega (arith, even, run-step .0)
 
-      stands : AtStart rs n w t (this .window)
-      stands = subst (λ (u : Level). AtStart rs n w t (u .window)) (sym (d .answer)) (level-at-start s rs n w t before (so-far .start))
+      stands : AtStart rs n w t (this .named)
+      stands = subst (λ (u : Level). AtStart rs n w t (u .named)) (sym (d .answer)) (level-at-start s rs n w t before (so-far .start))
 
-      spare : Harmless s rs n w (t / 2) new′ (startsOn n w t) (this .window .area)
+      spare : Harmless s rs n w (t / 2) new′ (startsOn n w t) (this .named .area)
       spare =
-          subst (λ (l : List ℕ). Harmless s rs n w (t / 2) l (startsOn n w t) (this .window .area)) (sym (d .flags))
+          subst (λ (l : List ℕ). Harmless s rs n w (t / 2) l (startsOn n w t) (this .named .area)) (sym (d .flags))
           (subst
-          (λ (u : ℕ). Harmless s rs n w (t / 2) (flagsInRows s (this .window .area) (farArea s rs n w u) u (startsOn n w u) (startsOn n w u) new) (startsOn n w u) (this .window .area))
-          (sym even) (harmless-next s rs n w (t / 2) (this .window .area) new positive))
+          (λ (u : ℕ). Harmless s rs n w (t / 2) (flagsInRows s (this .named .area) (farArea s rs n w u) u (startsOn n w u) (startsOn n w u) new) (startsOn n w u) (this .named .area))
+          (sym even) (harmless-next s rs n w (t / 2) (this .named .area) new positive))
 
   -- the numbers of a level fit the tests after it
   pub run-small : (this : Level) → w ≤ n → n ≤ 1048576 → this ≡ levelOf s rs n w t before → LevelSmall this
-  run-small this q small h = subst LevelSmall (sym h) (level-small s rs n w t before small q (run-tile .0) (so-far .start))
+  run-small this q small h = subst LevelSmall (sym h) (level-small s rs n w t before small q (run-step .0) (so-far .start))
 
   pub run-deep : j ≤ 4
   run-deep = omega (arith, so-far .level, so-far .last)

@@ -29,8 +29,8 @@ use Rattle.zoom.specs.Passing.{NoBetter}
 pub record Sized (g : Grid) : Type 0 where
   pub small : g .n ≤ 1048576
   pub inside : g .w ≤ g .n
-  pub tile : 1 ≤ g .t
-  pub tiles : g .t ≤ g .w
+  pub some-step : 1 ≤ g .t
+  pub step-fits : g .t ≤ g .w
   pub count : g .starts ≡ startsOn (g .n) (g .w) (g .t)
 
 -- a window at a start, with its area
@@ -41,7 +41,7 @@ pub record AtStart (rs : List Rect) (n w t : ℕ) (b : Spot) : Type 0 where
   pub down : row < startsOn n w t
   pub is : b ≡ spotAt (windowArea rs w) (column * t) (row * t)
 
--- the span of a far window on an axis; with tile side 0 it is that of the standard window
+-- the span of a far window on an axis; with step 0 it is that of the standard window
 abbrev pub spanFrom : Sense → (t x : ℕ) → ℕ
 spanFrom Greatest t x = x
 spanFrom Least t x = x + t
@@ -87,11 +87,11 @@ farInRows s best f t n (suc m) b = farInRow s best f t (m * t) n (farInRows s be
 abbrev pub endingOf : Sense → (e v z j : ℕ) → Level → Spot → Ending
 endingOf s e v z j this m =
     elim (isMet s e this) [
-      | true ↦ Over (record { end = Met; levels = suc j; last = this })
+      | true ↦ Over (record { end = Met; done = suc j; last = this })
       | false ↦ elim (leb v (suc j)) [
-        | true ↦ Over (record { end = Stopped; levels = suc j; last = this })
+        | true ↦ Over (record { end = Stopped; done = suc j; last = this })
         | false ↦ elim (leb z j) [
-          | true ↦ Over (exactEnd s j (this .window) m)
+          | true ↦ Over (exactEnd s j (this .named) m)
           | false ↦ Open
         ]
       ]

@@ -49,7 +49,7 @@ fn level(
     requires { ⌜ Harmless sense (rectsOf (now rects)) n w t (now flags) side (before .area) ⌝ }
     requires { ⌜ AtStart (rectsOf (now rects)) n w t before ⌝ }
     ensures { λ r. ⌜ r ≡ levelOf sense (rectsOf (now (rects .entry))) n w t before ⌝ }
-    ensures { λ r. ⌜ now (new .exit) ≡ flagsInRows sense (r .window .area) (farArea sense (rectsOf (now (rects .entry))) n w t) t (startsOn n w t) (startsOn n w t) (now (new .entry)) ⌝ }
+    ensures { λ r. ⌜ now (new .exit) ≡ flagsInRows sense (r .named .area) (farArea sense (rectsOf (now (rects .entry))) n w t) t (startsOn n w t) (startsOn n w t) (now (new .entry)) ⌝ }
 {
     let starts = starts_on(n, w, t);
     let g = Grid { n, w, t, starts };
@@ -57,8 +57,8 @@ fn level(
     let far = bounds::rows(sense, rects, flags, side, new, g, best);
     let bound = far.bound;
     Level {
-        window: best,
-        far: bound.area,
+        named: best,
+        limit: bound.area,
         kept: far.kept,
     }
 }
@@ -67,8 +67,8 @@ fn low_end(sense: Sense, level: Level) -> u64
     ensures { λ r. ⌜ r ≡ lowEnd sense level ⌝ }
 {
     match sense {
-        Sense::Greatest => level.window.area,
-        Sense::Least => level.far,
+        Sense::Greatest => level.named.area,
+        Sense::Least => level.limit,
     }
 }
 
@@ -76,13 +76,13 @@ fn high_end(sense: Sense, level: Level) -> u64
     ensures { λ r. ⌜ r ≡ highEnd sense level ⌝ }
 {
     match sense {
-        Sense::Greatest => level.far,
-        Sense::Least => level.window.area,
+        Sense::Greatest => level.limit,
+        Sense::Least => level.named.area,
     }
 }
 
 fn is_met(sense: Sense, e: u64, level: Level) -> bool
-    requires { ⌜ (e ≤ 1000) × (level .window .area ≤ 1099511627776) × (level .far ≤ 1099511627776) ⌝ }
+    requires { ⌜ (e ≤ 1000) × (level .named .area ≤ 1099511627776) × (level .limit ≤ 1099511627776) ⌝ }
     ensures { λ r. ⌜ r ≡ isMet sense e level ⌝ }
 {
     1000 * high_end(sense, level) <= (1000 + 2 * e) * low_end(sense, level)
@@ -90,34 +90,34 @@ fn is_met(sense: Sense, e: u64, level: Level) -> bool
 
 // What follows level j: an answer, or the next level.
 fn ending(sense: Sense, e: u64, v: u64, z: u64, j: u64, this: Level, m: Spot) -> Ending
-    requires { ⌜ (e ≤ 1000) × (this .window .area ≤ 1099511627776) × (this .far ≤ 1099511627776) ⌝ }
+    requires { ⌜ (e ≤ 1000) × (this .named .area ≤ 1099511627776) × (this .limit ≤ 1099511627776) ⌝ }
     requires { ⌜ j ≤ 4 ⌝ }
     ensures { λ r. ⌜ r ≡ endingOf sense e v z j this m ⌝ }
 {
     if is_met(sense, e, this) {
         return Ending::Over(Quick {
             end: End::Met,
-            levels: j + 1,
+            done: j + 1,
             last: this,
         });
     }
     if v <= j + 1 {
         return Ending::Over(Quick {
             end: End::Stopped,
-            levels: j + 1,
+            done: j + 1,
             last: this,
         });
     }
     if z <= j {
-        let window = geometry::better_of(sense, this.window, m);
+        let named = geometry::better_of(sense, this.named, m);
         let last = Level {
-            window,
-            far: m.area,
+            named,
+            limit: m.area,
             kept: 0,
         };
         return Ending::Over(Quick {
             end: End::Exact,
-            levels: j + 2,
+            done: j + 2,
             last,
         });
     }
@@ -146,7 +146,7 @@ pub(crate) fn run(sense: Sense, rects: &[u64], n: u64, w: u64, e: u64, v: u64, m
             return answer;
         }
         bytes::copy(&new, &mut old);
-        before = this.window;
+        before = this.named;
         side = starts_on(n, w, t);
         t = t / 2;
         j += 1;

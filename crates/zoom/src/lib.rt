@@ -22,23 +22,27 @@ pub enum End {
     Exact,
 }
 
-// A level: the window named, the best far area (bloated for the greatest,
-// shrunk for the least) and the number of starts whose far area is better than
-// the best standard one.
+// A level: the window named; the limit, that is the far end of the bracket,
+// which no window passes: the best area of a bloated window for the greatest,
+// of a shrunk one for the least; and the number of starts whose far area is
+// better than the best standard one. For the greatest the area named is printed
+// as the floor and the limit as the ceiling.
 pub struct Level {
-    pub window: Spot,
-    pub far: u64,
+    pub named: Spot,
+    pub limit: u64,
     pub kept: u64,
 }
 
-// What the quick run answers, with the numbers of its last level.
+// What the quick run answers: how it ended, the levels done and the numbers of
+// the last one.
 pub struct Quick {
     pub end: End,
-    pub levels: u64,
+    pub done: u64,
     pub last: Level,
 }
 
-// A level's layout side, window side, tile side and number of starts on an axis.
+// A level's layout side n, window side w, step t between starts and number of
+// starts on an axis. The paper calls the step a tile side; the fill has others.
 struct Grid {
     n: u64,
     w: u64,

@@ -1,4 +1,4 @@
-// The span of a window on an axis. With tile side 0 it is that of the standard
+// The span of a window on an axis. With step 0 it is that of the standard
 // window, so one way of reading areas serves both passes of a level.
 ghost use Prim.Native.Nat.{_+_, _≤_};
 ghost use mathlib.Core.Path.{_≡_};

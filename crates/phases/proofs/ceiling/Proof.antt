@@ -14,7 +14,7 @@ quick-run-requires c κs =
 
 returns : tie.Need-returns
 unfolding answerOf
-returns c = ap (λ (q : Quick). q .last .far) (c .quick-run .ensures)
+returns c = ap (λ (q : Quick). q .last .limit) (c .quick-run .ensures)
 
 pub ceiling-spec : {M : Type 1} → statement M
 ceiling-spec = tie.close (tie.spec (λ c κs. search needs) quick-run-requires returns)

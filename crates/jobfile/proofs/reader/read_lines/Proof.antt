@@ -6,7 +6,7 @@ use native.Mathlib.Omega.{arith}
 use borrow.Author.Needs.{needs}
 use denote.Ref.{now}
 use lib.ListN.{length}
-use Rattle.jobfile.proofs.Lines.{SoFar, so-far-start, so-far-next, so-far-bad, so-far-end, from-place}
+use Rattle.jobfile.proofs.Lines.{SoFar, so-far-start, so-far-next, so-far-bad, so-limit, from-place}
 use Rattle.jobfile.proofs.reader.read_lines.Statement.{statement}
 use Rattle.jobfile.proofs.reader.read_lines.Tie as tie
 
@@ -72,4 +72,4 @@ read-lines-spec =
     (λ c. record { fits = omega (arith, again c .within, again c .lines) })
     (λ c. omega (arith, c .before .before .before .before .before .before .before .read-line .ensures .used))
     loop-again (λ c κs. search needs) (λ c. c .before .before .loop .inv .1) (λ c. c .before .before .loop .inv .2)
-    (λ c. so-far-end _ _ _ _ _ _ _ (c .before .before .loop .inv .0) (c .before .loop-test .left) (c .end-fault .ensures)))
+    (λ c. so-limit _ _ _ _ _ _ _ (c .before .before .loop .inv .0) (c .before .loop-test .left) (c .end-fault .ensures)))

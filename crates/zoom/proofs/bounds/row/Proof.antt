@@ -58,7 +58,7 @@ part-at-requires c κs =
     let start = c .before .before .before .before .before .before .before .before .before in
     let inv = c .before .before .before .before .before .loop .inv in
     let z = start .pre .1 .0 in
-    ((start .pre .0, omega (arith, start .pre .0 .few, inv .1)), ((z, z .tiles, c .before .before .before .if1 .taken), inv .2))
+    ((start .pre .0, omega (arith, start .pre .0 .few, inv .1)), ((z, z .step-fits, c .before .before .before .if1 .taken), inv .2))
 
 array-share-prefix-near : tie.Need-array-share-prefix-near Inv-loop μ-loop
 array-share-prefix-near c = c .before .part-at .ensures .0 .fits
@@ -85,7 +85,7 @@ look-requires c κs =
     let fits = start-inside (start .args .g) (at .i) z (c .before .before .before .before .before .before .before .before .if1 .taken) in (
       c .before .before .before .before .part-at .ensures .0 .small,
       (
-        omega (arith, fits, z .small, z .tiles, z .inside),
+        omega (arith, fits, z .small, z .step-fits, z .inside),
         (
           omega (arith, row-few _ _ _ _ _ _ _ _ _ _ _ (at .inv .3), starts-small (start .args .g) z, at .inv .0, start .pre .1 .1 .1 .1 .0),
           row-bound-stays _ _ _ _ _ _ _ _ _ _ _ (at .inv .3) (start .pre .1 .1 .1 .1 .1 .0),

@@ -18,7 +18,7 @@ strip-at-requires : tie.Need-strip-at-requires
 strip-at-requires c κs =
     let start = c .before .before .before .before .before in
     let z = start .pre .1 .0 in
-    omega (arith, start-inside (start .args .g) (start .args .j) z (start .pre .1 .1 .1 .0), z .small, z .tiles, z .inside, start .pre .0 .few)
+    omega (arith, start-inside (start .args .g) (start .args .j) z (start .pre .1 .1 .1 .0), z .small, z .step-fits, z .inside, start .pre .0 .few)
 
 array-share-prefix-strip : tie.Need-array-share-prefix-strip
 array-share-prefix-strip c = front-fits _ _ _ _ (c .before .strip-at .ensures)

@@ -13,7 +13,7 @@ rows-requires-2 c κs =
     let a = start .args in
     let starts = c .before .before .starts-on in
     let g : Grid = record { n = a .n; w = a .w; t = a .t; starts = starts .result } in
-    let z : Sized g = record { small = start .pre .1 .0 .0; inside = start .pre .1 .0 .1; tile = start .pre .1 .0 .2; tiles = start .pre .1 .0 .3; count = starts .ensures } in (
+    let z : Sized g = record { small = start .pre .1 .0 .0; inside = start .pre .1 .0 .1; some-step = start .pre .1 .0 .2; step-fits = start .pre .1 .0 .3; count = starts .ensures } in (
       start .pre .0,
       (
         z,
@@ -33,7 +33,7 @@ returns c =
     let best = c .before .before .before .before .before .rows in
     let far = c .before .before .before .rows2 in
     let g : Grid = record { n = a .n; w = a .w; t = a .t; starts = starts .result } in
-    let z : Sized g = record { small = start .pre .1 .0 .0; inside = start .pre .1 .0 .1; tile = start .pre .1 .0 .2; tiles = start .pre .1 .0 .3; count = starts .ensures } in
+    let z : Sized g = record { small = start .pre .1 .0 .0; inside = start .pre .1 .0 .1; some-step = start .pre .1 .0 .2; step-fits = start .pre .1 .0 .3; count = starts .ensures } in
     let done =
     level-done (a .sense) (rectsOf (a .rects .now)) g (a .before) (best .result) (far .result) (a .new .now) _ z (start .pre .1 .1 .1) (best .ensures)
     (record { search = far .ensures .0; flags = far .ensures .1 }) in

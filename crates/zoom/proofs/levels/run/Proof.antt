@@ -5,7 +5,7 @@ use mathlib.Core.Path.{sym, _∙_}
 use native.Mathlib.Omega.{arith}
 use borrow.Author.Needs.{needs}
 use Rattle.geometry.specs.Layout.{rectsOf}
-use Rattle.zoom.proofs.Zooming.{RunSoFar, run-begins, run-tile, run-answers, run-goes-on, run-small, run-deep}
+use Rattle.zoom.proofs.Zooming.{RunSoFar, run-begins, run-step, run-answers, run-goes-on, run-small, run-deep}
 use Rattle.zoom.proofs.levels.run.Statement.{statement}
 use Rattle.zoom.proofs.levels.run.Tie as tie
 
@@ -31,8 +31,8 @@ level-requires : tie.Need-level-requires Inv-loop μ-loop
 level-requires c κs =
     let start = c .before .before .before .before .before .before in
     let at = c .before .before .loop in
-    let tile = run-tile _ _ _ _ _ _ _ _ _ _ _ _ _ (at .inv) (start .pre .1 .0 .0) in
-    (start .pre .0, ((start .pre .1 .0 .2, start .pre .1 .0 .1, tile .0, tile .1, at .inv .few), (at .inv .spare, at .inv .start)))
+    let step = run-step _ _ _ _ _ _ _ _ _ _ _ _ _ (at .inv) (start .pre .1 .0 .0) in
+    (start .pre .0, ((start .pre .1 .0 .2, start .pre .1 .0 .1, step .0, step .1, at .inv .few), (at .inv .spare, at .inv .start)))
 
 ending-requires : tie.Need-ending-requires Inv-loop μ-loop
 ending-requires c κs =
@@ -40,7 +40,7 @@ ending-requires c κs =
     let so-far = c .before .before .before .before .loop .inv in
     let p = start .pre .1 .0 in
     let small = run-small _ _ _ _ _ _ _ _ _ _ _ _ _ so-far (p .0) (c .before .level .result) (p .1) (p .2) (c .before .level .ensures .0) in
-    ((p .3, small .window, small .far), run-deep _ _ _ _ _ _ _ _ _ _ _ _ _ so-far (p .0))
+    ((p .3, small .named, small .limit), run-deep _ _ _ _ _ _ _ _ _ _ _ _ _ so-far (p .0))
 
 returns : tie.Need-returns Inv-loop μ-loop
 returns c =
@@ -70,7 +70,7 @@ starts-on-requires c κs =
     let start = c .before .before .before .before .before .before .before .before .before .before .before .before .before .before .before .before in
     let so-far = c .before .before .before .before .before .before .before .before .before .before .before .before .loop .inv in
     let p = start .pre .1 .0 in
-    (p .1, p .2, run-tile _ _ _ _ _ _ _ _ _ _ _ _ _ so-far (p .0) .0)
+    (p .1, p .2, run-step _ _ _ _ _ _ _ _ _ _ _ _ _ so-far (p .0) .0)
 
 add-j : tie.Need-add-j Inv-loop μ-loop
 add-j c =
