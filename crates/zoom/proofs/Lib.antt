@@ -5,6 +5,6 @@ pub mod Bracket
 pub mod PassOver
 pub mod Numbers
 pub mod Passes
-pub mod Holding
+pub mod Serving
 pub mod Rows
 pub mod Zooming

@@ -82,12 +82,12 @@ rows-flag s best far t n (suc m) l i j h k e = go (ℕ-discrete j m) (rows-flag 
 
 -- ---- it is harmless to pass over what the flags say
 
-pub harmless-first : (s : Sense) (rs : List Rect) (n w t side size best : ℕ) → Harmless s rs n w t (replicate size 0) side best
-harmless-first s rs n w t side size best j k i h e = absurd (go (le-or-lt size (j / 2 * side + i / 2)))
+pub harmless-first : (s : Sense) (rs : List Rect) (n w t stride size best : ℕ) → Harmless s rs n w t (replicate size 0) stride best
+harmless-first s rs n w t stride size best j k i h e = absurd (go (le-or-lt size (j / 2 * stride + i / 2)))
   where
-    go : (size ≤ j / 2 * side + i / 2) ⊎ (j / 2 * side + i / 2 < size) → ⊥
-    go (inl l) = omega (arith, e, List·getD-eq-default {A = ℕ} (replicate size 0) 0 {n = j / 2 * side + i / 2} (omega (arith, length-replicate {A = ℕ} size 0)))
-    go (inr l) = omega (arith, e, getD-replicate {A = ℕ} size (j / 2 * side + i / 2) 0 0 l)
+    go : (size ≤ j / 2 * stride + i / 2) ⊎ (j / 2 * stride + i / 2 < size) → ⊥
+    go (inl l) = omega (arith, e, List·getD-eq-default {A = ℕ} (replicate size 0) 0 {n = j / 2 * stride + i / 2} (omega (arith, length-replicate {A = ℕ} size 0)))
+    go (inr l) = omega (arith, e, getD-replicate {A = ℕ} size (j / 2 * stride + i / 2) 0 0 l)
 
 pub harmless-next : (s : Sense) (rs : List Rect) (n w t best : ℕ) (l : List ℕ) → 1 ≤ t →
     Harmless s rs n w t
@@ -111,7 +111,7 @@ standard-no-better s rs n w t i j best p q h k b =
 -- ---- the law of passing over, in boxes
 
 -- b lies inside c
-pub record Within (b c : Rect) : Type 0 where
+pub record Inside (b c : Rect) : Type 0 where
   pub left : c .x1 ≤ b .x1
   pub low : c .y1 ≤ b .y1
   pub right : b .x2 ≤ c .x2
@@ -126,7 +126,7 @@ pub record AddsNothing (rs : List Rect) (n w t x y f : ℕ) : Type 0 where
 
 -- a start (x, y) of level j may be passed over if its bloated window lies inside one of an earlier level i of area at most the F of that level
 pub passed-over : (rs : List Rect) (n w i j x y x′ y′ : ℕ) → i ≤ j → x + w ≤ n → y + w ≤ n →
-    Within (bloated n w (levelStep w j) x y) (bloated n w (levelStep w i) x′ y′) →
+    Inside (bloated n w (levelStep w j) x y) (bloated n w (levelStep w i) x′ y′) →
     coveredArea rs (bloated n w (levelStep w i) x′ y′) ≤ levelAt Greatest rs n w i .named .area →
     AddsNothing rs n w (levelStep w j) x y (levelAt Greatest rs n w j .named .area)
 passed-over rs n w i j x y x′ y′ h ex ey l s =

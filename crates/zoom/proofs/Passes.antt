@@ -32,8 +32,8 @@ pub start-inside : (g : Grid) (i : ℕ) → Sized g → i < g .starts → i * g 
 start-inside g i z h = omega (arith, start-fits (g .n) (g .w) (g .t) i (z .some-step) (rw (z .count) at h), z .inside)
 
 -- the places of the flags of a row, in the level before and in this one
-pub row-above : (g : Grid) (j side : ℕ) → Sized g → j < g .starts → side ≤ 1048577 → j / 2 * side ≤ 1099513724929
-row-above g j side z h k = mul-le-mul {n₂ = 1048577} (omega (arith, starts-small g z)) k
+pub row-above : (g : Grid) (j stride : ℕ) → Sized g → j < g .starts → stride ≤ 1048577 → j / 2 * stride ≤ 1099513724929
+row-above g j stride z h k = mul-le-mul {n₂ = 1048577} (omega (arith, starts-small g z)) k
 
 pub row-place : (g : Grid) (j : ℕ) → Sized g → j ≤ g .starts → j * g .starts ≤ 1099513724929
 row-place g j z h = mul-le-mul {n₂ = 1048577} (omega (arith, starts-small g z)) (starts-small g z)
@@ -60,9 +60,9 @@ module _ (s : Sense) (f : ℕ → ℕ → ℕ) (t y i : ℕ) (before best : Spot
   row-next r e = e ∙ ap (λ (b : Spot). replaced s b (spotAt f (i * t) y)) so-far ∙ ap (λ (k : ℕ). bestInRow s f t y k before) (sym (add-one i))
 
 module _ (s : Sense) (f : ℕ → ℕ → ℕ) (t n j : ℕ) (before best : Spot) (so-far : best ≡ bestInRows s f t n j before) where
-  pub rows-spare : (rs : List Rect) (m w : ℕ) (flags : List ℕ) (side : ℕ) → HarmlessRow s rs m w t flags side j (before .area) →
-      HarmlessRow s rs m w t flags side j (best .area)
-  rows-spare rs m w flags side p i h e =
+  pub rows-spare : (rs : List Rect) (m w : ℕ) (flags : List ℕ) (stride : ℕ) → HarmlessRow s rs m w t flags stride j (before .area) →
+      HarmlessRow s rs m w t flags stride j (best .area)
+  rows-spare rs m w flags stride p i h e =
       no-better-trans s (farArea s rs m w t (i * t) (j * t)) (before .area) (best .area) (p i h e)
       (subst (λ (b : Spot). NoBetter s (before .area) (b .area)) (sym so-far) (rows-stay s f t n j before))
 

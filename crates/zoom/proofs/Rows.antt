@@ -60,10 +60,10 @@ module _ (s : Sense) (table : List ℕ) (g : Grid) (j : ℕ) (d : Drawn table) (
 -- ---- the first pass
 
 -- what is harmless in the row is harmless along its strip
-pub harmless-standard : (s : Sense) (rs : List Rect) (g : Grid) (j : ℕ) (strip flags : List ℕ) (side best : ℕ) → Sized g → j < g .starts →
-    Reads s (windowArea rs (g .w)) g 0 j strip → HarmlessRow s rs (g .n) (g .w) (g .t) flags side j best →
-    Spares s (alongStrip s strip (g .n) (g .w) 0) (g .t) (j * g .t) (g .starts) flags (j / 2 * side) best
-harmless-standard s rs g j strip flags side best z k q p i h e =
+pub harmless-standard : (s : Sense) (rs : List Rect) (g : Grid) (j : ℕ) (strip flags : List ℕ) (stride best : ℕ) → Sized g → j < g .starts →
+    Reads s (windowArea rs (g .w)) g 0 j strip → HarmlessRow s rs (g .n) (g .w) (g .t) flags stride j best →
+    Spares s (alongStrip s strip (g .n) (g .w) 0) (g .t) (j * g .t) (g .starts) flags (j / 2 * stride) best
+harmless-standard s rs g j strip flags stride best z k q p i h e =
     rw (q .areas i h)
     (standard-no-better s rs (g .n) (g .w) (g .t) i j best (z .some-step) (z .inside) (rw (z .count) at h) (rw (z .count) at k) (p i (rw (z .count) at h) e))
 
@@ -73,10 +73,10 @@ row-by-strip s f g u j strip before r q e = e ∙ row-cong s (alongStrip s strip
 
 -- ---- the second pass
 
-pub harmless-far : (s : Sense) (rs : List Rect) (g : Grid) (j : ℕ) (strip flags : List ℕ) (side best : ℕ) → Sized g →
-    Reads s (farArea s rs (g .n) (g .w) (g .t)) g (g .t) j strip → HarmlessRow s rs (g .n) (g .w) (g .t) flags side j best →
-    Spares s (alongStrip s strip (g .n) (g .w) (g .t)) (g .t) (j * g .t) (g .starts) flags (j / 2 * side) best
-harmless-far s rs g j strip flags side best z q p i h e = rw (q .areas i h) (p i (rw (z .count) at h) e)
+pub harmless-far : (s : Sense) (rs : List Rect) (g : Grid) (j : ℕ) (strip flags : List ℕ) (stride best : ℕ) → Sized g →
+    Reads s (farArea s rs (g .n) (g .w) (g .t)) g (g .t) j strip → HarmlessRow s rs (g .n) (g .w) (g .t) flags stride j best →
+    Spares s (alongStrip s strip (g .n) (g .w) (g .t)) (g .t) (j * g .t) (g .starts) flags (j / 2 * stride) best
+harmless-far s rs g j strip flags stride best z q p i h e = rw (q .areas i h) (p i (rw (z .count) at h) e)
 
 far-row-cong : (s : Sense) (best : ℕ) (f g : ℕ → ℕ → ℕ) (t y n : ℕ) (b : Far) → ((i : ℕ) → i < n → f (i * t) y ≡ g (i * t) y) →
     farInRow s best f t y n b ≡ farInRow s best g t y n b

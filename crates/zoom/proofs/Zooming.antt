@@ -19,13 +19,13 @@ use Rattle.extremes.specs.Exact.{windowArea, extreme}
 use Rattle.zoom.specs.declared.Level.{Level}
 use Rattle.zoom.specs.declared.End.the-variants.{Met, Stopped, Exact}
 use Rattle.zoom.specs.declared.Quick.{Quick}
-use Rattle.zoom.specs.declared.Ending.{Ending}
-use Rattle.zoom.specs.declared.Ending.the-variants.{Over, Open}
+use Rattle.zoom.specs.declared.Next.{Next}
+use Rattle.zoom.specs.declared.Next.the-variants.{Over, Deeper}
 use Rattle.zoom.specs.declared.Grid.{Grid}
 use Rattle.zoom.specs.declared.Far.{Far}
 use Rattle.zoom.specs.Run.{lastLevel, levelStep, startsOn, farArea, levelOf, levelAt, isMet, exactEnd, runFrom, quickRun}
 use Rattle.zoom.specs.Passing.{NoBetter, Harmless, flagsInRows}
-use Rattle.zoom.specs.Grid.{Sized, AtStart, farInRows, endingOf}
+use Rattle.zoom.specs.Grid.{Sized, AtStart, farInRows, nextAfter}
 use Rattle.zoom.proofs.Folds.{no-better-trans, rows-stay}
 use Rattle.zoom.proofs.Steps.{step-next, step-halves, step-positive}
 use Rattle.zoom.proofs.Starts.{start-stays}
@@ -36,10 +36,10 @@ use Rattle.zoom.proofs.Passes.{RowsSoFar, far-rows-bound, far-rows-kept
 -- ---- a level by its two passes
 
 -- what is harmless against the window before is harmless against the level's best
-pub harmless-on : (s : Sense) (rs : List Rect) (g : Grid) (flags : List ℕ) (side : ℕ) (before best : Spot) →
-    best ≡ bestInRows s (windowArea rs (g .w)) (g .t) (g .starts) (g .starts) before → Harmless s rs (g .n) (g .w) (g .t) flags side (before .area) →
-    Harmless s rs (g .n) (g .w) (g .t) flags side (best .area)
-harmless-on s rs g flags side before best e p j k i h q =
+pub harmless-on : (s : Sense) (rs : List Rect) (g : Grid) (flags : List ℕ) (stride : ℕ) (before best : Spot) →
+    best ≡ bestInRows s (windowArea rs (g .w)) (g .t) (g .starts) (g .starts) before → Harmless s rs (g .n) (g .w) (g .t) flags stride (before .area) →
+    Harmless s rs (g .n) (g .w) (g .t) flags stride (best .area)
+harmless-on s rs g flags stride before best e p j k i h q =
     no-better-trans s (farArea s rs (g .n) (g .w) (g .t) (i * g .t) (j * g .t)) (before .area) (best .area) (p j k i h q)
     (subst (λ (b : Spot). NoBetter s (before .area) (b .area)) (sym e) (rows-stay s (windowArea rs (g .w)) (g .t) (g .starts) (g .starts) before))
 
@@ -92,11 +92,11 @@ level-done s rs g before best far new new′ z a e r =
 -- ---- the run, level by level
 
 -- the code's three tests
-abbrev endTests : (met late last : Bool) (first second third : Quick) → Ending
+abbrev endTests : (met late last : Bool) (first second third : Quick) → Next
 endTests met late last first second third =
     elim met [
       | true ↦ Over first
-      | false ↦ elim late [ true ↦ Over second | false ↦ elim last [ true ↦ Over third | false ↦ Open ] ]
+      | false ↦ elim late [ true ↦ Over second | false ↦ elim last [ true ↦ Over third | false ↦ Deeper ] ]
     ]
 
 -- they are those of the definition, where the last level is the one with no level left
@@ -111,15 +111,15 @@ record GoesOn (last : Bool) (answer next : Quick) : Type 0 where
   more : last ≡ false
   same : answer ≡ next
 
-open-by-tests : (met late last : Bool) (first second third next : Quick) → endTests met late last first second third ≡ Open →
+deeper-by-tests : (met late last : Bool) (first second third next : Quick) → endTests met late last first second third ≡ Deeper →
     GoesOn last (elim met [ true ↦ first | false ↦ elim late [ true ↦ second | false ↦ next ] ]) next
-open-by-tests true late last first second third next e = record { more = cc; same = cc }
-open-by-tests false true last first second third next e = record { more = cc; same = cc }
-open-by-tests false false true first second third next e = record { more = cc; same = refl }
-open-by-tests false false false first second third next e = record { more = refl; same = refl }
+deeper-by-tests true late last first second third next e = record { more = cc; same = cc }
+deeper-by-tests false true last first second third next e = record { more = cc; same = cc }
+deeper-by-tests false false true first second third next e = record { more = cc; same = refl }
+deeper-by-tests false false false first second third next e = record { more = refl; same = refl }
 
 run-over : (s : Sense) (rs : List Rect) (n w e v z left j : ℕ) (q : Quick) → j + left ≡ z →
-    endingOf s e v z j (levelAt s rs n w j) (extreme s rs n w) ≡ Over q → runFrom s rs n w e v left j ≡ q
+    nextAfter s e v z j (levelAt s rs n w j) (extreme s rs n w) ≡ Over q → runFrom s rs n w e v left j ≡ q
 unfolding runFrom
 run-over s rs n w e v z zero j q h k =
     let this : Level = levelAt s rs n w j in
@@ -133,16 +133,16 @@ record RunGoesOn (s : Sense) (rs : List Rect) (n w e v z left j : ℕ) : Type 0 
   more : j < z
   same : runFrom s rs n w e v left j ≡ runFrom s rs n w e v (left - 1) (suc j)
 
-run-open : (s : Sense) (rs : List Rect) (n w e v z left j : ℕ) → j + left ≡ z →
-    endingOf s e v z j (levelAt s rs n w j) (extreme s rs n w) ≡ Open → RunGoesOn s rs n w e v z left j
+run-deeper : (s : Sense) (rs : List Rect) (n w e v z left j : ℕ) → j + left ≡ z →
+    nextAfter s e v z j (levelAt s rs n w j) (extreme s rs n w) ≡ Deeper → RunGoesOn s rs n w e v z left j
 unfolding runFrom
-run-open s rs n w e v z zero j h k =
+run-deeper s rs n w e v z zero j h k =
     let this : Level = levelAt s rs n w j in
-    let g = open-by-tests (isMet s e this) (leb v (suc j)) (leb z j) _ _ _ (exactEnd s j (this .named) (extreme s rs n w)) k in
+    let g = deeper-by-tests (isMet s e this) (leb v (suc j)) (leb z j) _ _ _ (exactEnd s j (this .named) (extreme s rs n w)) k in
     absurd (omega (arith, leb-false z j (g .more)))
-run-open s rs n w e v z (suc left) j h k =
+run-deeper s rs n w e v z (suc left) j h k =
     let this : Level = levelAt s rs n w j in
-    let g = open-by-tests (isMet s e this) (leb v (suc j)) (leb z j) _ _ _ (runFrom s rs n w e v left (suc j)) k in
+    let g = deeper-by-tests (isMet s e this) (leb v (suc j)) (leb z j) _ _ _ (runFrom s rs n w e v left (suc j)) k in
     let less : left ≡ suc left - 1 = omega arith in
     record { more = omega (arith, leb-false z j (g .more)); same = g .same ∙ ap (λ (l : ℕ). runFrom s rs n w e v l (suc j)) less }
 
@@ -151,25 +151,25 @@ module _ (s : Sense) (e v z j : ℕ) (this : Level) (m : Spot) (met : Bool) (tes
   by-tests : (a b c : Bool) → met ≡ a → leb v (suc j) ≡ b → leb z j ≡ c →
       endTests a b c (record { end = Met; done = suc j; last = this }) (record { end = Stopped; done = suc j; last = this })
       (exactEnd s j (this .named) m)
-      ≡ endingOf s e v z j this m
+      ≡ nextAfter s e v z j this m
   by-tests a b c h k l = rw (sym h ∙ tested, sym k, sym l)
 
-  pub ends-met : met ≡ true → Over (record { end = Met; done = j + 1; last = this }) ≡ endingOf s e v z j this m
+  pub ends-met : met ≡ true → Over (record { end = Met; done = j + 1; last = this }) ≡ nextAfter s e v z j this m
   ends-met h = ap (λ (k : ℕ). Over (record { end = Met; done = k; last = this })) (add-one j) ∙ by-tests true (leb v (suc j)) (leb z j) h refl refl
 
-  pub ends-stopped : met ≡ false → v ≤ j + 1 → Over (record { end = Stopped; done = j + 1; last = this }) ≡ endingOf s e v z j this m
+  pub ends-stopped : met ≡ false → v ≤ j + 1 → Over (record { end = Stopped; done = j + 1; last = this }) ≡ nextAfter s e v z j this m
   ends-stopped h k =
       ap (λ (k : ℕ). Over (record { end = Stopped; done = k; last = this })) (add-one j)
       ∙ by-tests false true (leb z j) h (le-leb v (suc j) (omega arith)) refl
 
   pub ends-exact : (best : Spot) → met ≡ false → j + 1 < v → z ≤ j → best ≡ replaced s (this .named) m →
-      Over (record { end = Exact; done = j + 2; last = record { named = best; limit = m .area; kept = 0 } }) ≡ endingOf s e v z j this m
+      Over (record { end = Exact; done = j + 2; last = record { named = best; limit = m .area; kept = 0 } }) ≡ nextAfter s e v z j this m
   ends-exact best h k l r =
       ap₂ (λ (k : ℕ) (b : Spot). Over (record { end = Exact; done = k; last = record { named = b; limit = m .area; kept = 0 } })) (add-two j) r
       ∙ by-tests false false true h (lt-leb v (suc j) (omega arith)) (le-leb z j l)
 
-  pub ends-open : met ≡ false → j + 1 < v → j < z → Open ≡ endingOf s e v z j this m
-  ends-open h k l = by-tests false false false h (lt-leb v (suc j) (omega arith)) (lt-leb z j l)
+  pub ends-deeper : met ≡ false → j + 1 < v → j < z → Deeper ≡ nextAfter s e v z j this m
+  ends-deeper h k l = by-tests false false false h (lt-leb v (suc j) (omega arith)) (lt-leb z j l)
 
 -- a table copied over another of its length
 copied : (from to out : List ℕ) → length from ≡ length to → out ≡ take (length from) from ++ drop (length from) to → out ≡ from
@@ -177,15 +177,15 @@ copied from to out h e =
     e ∙ ap₂ (λ (a b : List ℕ). a ++ b) (take-length from) (ap (λ (k : ℕ). drop k to) h ∙ drop-length to) ∙ append-nil from
 
 -- what holds before each level
-pub record RunSoFar (s : Sense) (rs : List Rect) (n w e v z : ℕ) (old new : List ℕ) (before : Spot) (side t j : ℕ) : Type 0 where
+pub record RunSoFar (s : Sense) (rs : List Rect) (n w e v z : ℕ) (old new : List ℕ) (before : Spot) (stride t j : ℕ) : Type 0 where
   pub whole : runFrom s rs n w e v (z - j) j ≡ quickRun s rs n w e v
   pub last : z ≡ lastLevel w
   pub level : j ≤ z
   pub step : t ≡ levelStep w j
   pub follows : levelOf s rs n w (levelStep w j) before ≡ levelAt s rs n w j
   pub start : AtStart rs n w t before
-  pub spare : Harmless s rs n w t old side (before .area)
-  pub few : side ≤ 1048577
+  pub spare : Harmless s rs n w t old stride (before .area)
+  pub few : stride ≤ 1048577
   pub old-size : length old ≡ 262144
   pub new-size : length new ≡ 262144
 
@@ -209,7 +209,7 @@ run-begins s rs n w e v z before h k =
     left : z - 0 ≡ lastLevel w
     left = omega arith
 
-module _ (s : Sense) (rs : List Rect) (n w e v z : ℕ) (old new : List ℕ) (before : Spot) (side t j : ℕ) (so-far : RunSoFar s rs n w e v z old new before side t j) (p : 1 ≤ w) where
+module _ (s : Sense) (rs : List Rect) (n w e v z : ℕ) (old new : List ℕ) (before : Spot) (stride t j : ℕ) (so-far : RunSoFar s rs n w e v z old new before stride t j) (p : 1 ≤ w) where
   pub run-step : (1 ≤ t) × (t ≤ w)
   run-step =
       let deep : j ≤ lastLevel w = omega (arith, so-far .level, so-far .last) in
@@ -226,19 +226,19 @@ module _ (s : Sense) (rs : List Rect) (n w e v z : ℕ) (old new : List ℕ) (be
   unfolding levelAt
   run-names this h = ap (λ (u : Level). levelOf s rs n w (levelStep w (suc j)) (u .named)) (run-level this h)
 
-  run-ending : (this : Level) (m : Spot) (ending : Ending) → this ≡ levelOf s rs n w t before → m ≡ extreme s rs n w → ending ≡ endingOf s e v z j this m →
-      endingOf s e v z j (levelAt s rs n w j) (extreme s rs n w) ≡ ending
-  run-ending this m ending h k l = ap₂ (λ (u : Level) (x : Spot). endingOf s e v z j u x) (sym (run-level this h)) (sym k) ∙ sym l
+  run-next : (this : Level) (m : Spot) (after : Next) → this ≡ levelOf s rs n w t before → m ≡ extreme s rs n w → after ≡ nextAfter s e v z j this m →
+      nextAfter s e v z j (levelAt s rs n w j) (extreme s rs n w) ≡ after
+  run-next this m after h k l = ap₂ (λ (u : Level) (x : Spot). nextAfter s e v z j u x) (sym (run-level this h)) (sym k) ∙ sym l
 
-  pub run-answers : (this : Level) (m : Spot) (ending : Ending) (q : Quick) → this ≡ levelOf s rs n w t before → m ≡ extreme s rs n w →
-      ending ≡ endingOf s e v z j this m → ending ≡ Over q → q ≡ quickRun s rs n w e v
-  run-answers this m ending q h k l o = sym (run-over s rs n w e v z (z - j) j q left-is (run-ending this m ending h k l ∙ o)) ∙ so-far .whole
+  pub run-answers : (this : Level) (m : Spot) (after : Next) (q : Quick) → this ≡ levelOf s rs n w t before → m ≡ extreme s rs n w →
+      after ≡ nextAfter s e v z j this m → after ≡ Over q → q ≡ quickRun s rs n w e v
+  run-answers this m after q h k l o = sym (run-over s rs n w e v z (z - j) j q left-is (run-next this m after h k l ∙ o)) ∙ so-far .whole
 
-  pub run-goes-on : (this : Level) (m : Spot) (ending : Ending) (old′ new′ : List ℕ) (side′ : ℕ) → n ≤ 1048576 →
-      LevelDone s rs n w t before this new new′ → m ≡ extreme s rs n w → ending ≡ endingOf s e v z j this m → ending ≡ Open → length new′ ≡ length new →
-      old′ ≡ take (length new′) new′ ++ drop (length new′) old → side′ ≡ startsOn n w t →
-      RunSoFar s rs n w e v z old′ new′ (this .named) side′ (t / 2) (j + 1)
-  run-goes-on this m ending old′ new′ side′ small d k l o size copy counted =
+  pub run-goes-on : (this : Level) (m : Spot) (after : Next) (old′ new′ : List ℕ) (stride′ : ℕ) → n ≤ 1048576 →
+      LevelDone s rs n w t before this new new′ → m ≡ extreme s rs n w → after ≡ nextAfter s e v z j this m → after ≡ Deeper → length new′ ≡ length new →
+      old′ ≡ take (length new′) new′ ++ drop (length new′) old → stride′ ≡ startsOn n w t →
+      RunSoFar s rs n w e v z old′ new′ (this .named) stride′ (t / 2) (j + 1)
+  run-goes-on this m after old′ new′ stride′ small d k l o size copy counted =
       record {
         whole = ap₂ (λ (l i : ℕ). runFrom s rs n w e v l i) less (add-one j) ∙ sym (on .same) ∙ so-far .whole;
         last = so-far .last;
@@ -256,7 +256,7 @@ module _ (s : Sense) (rs : List Rect) (n w e v z : ℕ) (old new : List ℕ) (be
       same = copied new′ old old′ (size ∙ so-far .new-size ∙ sym (so-far .old-size)) copy
 
       on : RunGoesOn s rs n w e v z (z - j) j
-      on = run-open s rs n w e v z (z - j) j left-is (run-ending this m ending (d .answer) k l ∙ o)
+      on = run-deeper s rs n w e v z (z - j) j left-is (run-next this m after (d .answer) k l ∙ o)
 
       less : z - (j + 1) ≡ z - j - 1
       less = omega arith

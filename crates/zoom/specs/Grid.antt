@@ -16,12 +16,12 @@ use Rattle.geometry.specs.Extreme.{better, spotAt, replaced}
 use Rattle.geometry.specs.Overlaps.{stripOf, stripSum, StripSmall}
 use Rattle.extremes.specs.Exact.{windowArea}
 use Rattle.zoom.specs.declared.Grid.{Grid}
-use Rattle.zoom.specs.declared.Held.{Held}
+use Rattle.zoom.specs.declared.Part.{Part}
 use Rattle.zoom.specs.declared.Far.{Far}
 use Rattle.zoom.specs.declared.Level.{Level}
 use Rattle.zoom.specs.declared.End.the-variants.{Met, Stopped}
-use Rattle.zoom.specs.declared.Ending.{Ending}
-use Rattle.zoom.specs.declared.Ending.the-variants.{Over, Open}
+use Rattle.zoom.specs.declared.Next.{Next}
+use Rattle.zoom.specs.declared.Next.the-variants.{Over, Deeper}
 use Rattle.zoom.specs.Run.{startsOn, isMet, exactEnd}
 use Rattle.zoom.specs.Passing.{NoBetter}
 
@@ -59,7 +59,7 @@ abbrev pub alongStrip : Sense → List ℕ → (n w t x y : ℕ) → ℕ
 alongStrip s strip n w t x y = stripSum strip (spanFrom s t x) (spanTo s n w t x)
 
 -- the front of a buffer holds what the far windows meet of a strip, for the starts from i to before `until`
-pub record Meets (s : Sense) (strip : List ℕ) (g : Grid) (t i : ℕ) (held : Held) (buffer : List ℕ) : Type 0 where
+pub record Serves (s : Sense) (strip : List ℕ) (g : Grid) (t i : ℕ) (held : Part) (buffer : List ℕ) : Type 0 where
   pub fits : held .count ≤ length buffer
   pub small : StripSmall (take (held .count) buffer)
   pub same : (k y : ℕ) → i ≤ k → k < held .until →
@@ -84,15 +84,15 @@ farInRows s best f t n zero b = b
 farInRows s best f t n (suc m) b = farInRow s best f t (m * t) n (farInRows s best f t n m b)
 
 -- what the code decides after level j, where z is the last level and m the extreme: the answer, or that the next level is to be done
-abbrev pub endingOf : Sense → (e v z j : ℕ) → Level → Spot → Ending
-endingOf s e v z j this m =
+abbrev pub nextAfter : Sense → (e v z j : ℕ) → Level → Spot → Next
+nextAfter s e v z j this m =
     elim (isMet s e this) [
       | true ↦ Over (record { end = Met; done = suc j; last = this })
       | false ↦ elim (leb v (suc j)) [
         | true ↦ Over (record { end = Stopped; done = suc j; last = this })
         | false ↦ elim (leb z j) [
           | true ↦ Over (exactEnd s j (this .named) m)
-          | false ↦ Open
+          | false ↦ Deeper
         ]
       ]
     ]

@@ -29,14 +29,14 @@ unfoldable pub flagsInRows : Sense → (best : ℕ) → (ℕ → ℕ → ℕ) �
 flagsInRows s best far t n zero l = l
 flagsInRows s best far t n (suc m) l = flagsInRow s best far t (m * t) (m * n) n (flagsInRows s best far t n m l)
 
--- the flag that decides on the start (i, j): that of the start (i / 2, j / 2) of the level before, whose table has `side` flags to a row
-abbrev pub flagAbove : List ℕ → (side i j : ℕ) → ℕ
-flagAbove flags side i j = getD flags (j / 2 * side + i / 2) 0
+-- the flag that decides on the start (i, j): that of the start (i / 2, j / 2) of the level before, whose table has `stride` flags to a row
+abbrev pub flagAbove : List ℕ → (stride i j : ℕ) → ℕ
+flagAbove flags stride i j = getD flags (j / 2 * stride + i / 2) 0
 
 -- it is harmless to pass over the starts of row j that the table flags: no far area there is better than the best window
-abbrev pub HarmlessRow : Sense → List Rect → (n w t : ℕ) → List ℕ → (side j best : ℕ) → Type 0
-HarmlessRow s rs n w t flags side j best =
-    (i : ℕ) → i < startsOn n w t → flagAbove flags side i j ≡ 1 → NoBetter s (farArea s rs n w t (i * t) (j * t)) best
+abbrev pub HarmlessRow : Sense → List Rect → (n w t : ℕ) → List ℕ → (stride j best : ℕ) → Type 0
+HarmlessRow s rs n w t flags stride j best =
+    (i : ℕ) → i < startsOn n w t → flagAbove flags stride i j ≡ 1 → NoBetter s (farArea s rs n w t (i * t) (j * t)) best
 
-abbrev pub Harmless : Sense → List Rect → (n w t : ℕ) → List ℕ → (side best : ℕ) → Type 0
-Harmless s rs n w t flags side best = (j : ℕ) → j < startsOn n w t → HarmlessRow s rs n w t flags side j best
+abbrev pub Harmless : Sense → List Rect → (n w t : ℕ) → List ℕ → (stride best : ℕ) → Type 0
+Harmless s rs n w t flags stride best = (j : ℕ) → j < startsOn n w t → HarmlessRow s rs n w t flags stride j best

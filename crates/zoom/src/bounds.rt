@@ -11,7 +11,7 @@ ghost use Rattle.zoom.specs.Passing.{NoBetter, HarmlessRow, Harmless, fl
 ghost use Rattle.zoom.specs.Grid.{Sized, alongStrip, Spares, weighed, farInRow, farInRows};
 use crate::Far;
 use crate::Grid;
-use crate::Held;
+use crate::Part;
 use crate::flags::flag_at;
 use crate::flags::put_flag;
 use crate::parts::part_at;
@@ -87,7 +87,7 @@ fn row(
     ensures { λ r. ⌜ now (new .exit) ≡ flagsInRow sense best (alongStrip sense (now (strip .entry)) (g .n) (g .w) (g .t)) (g .t) y at (g .starts) (now (new .entry)) ⌝ }
 {
     let mut near = [0u64; 4096];
-    let mut held = Held { count: 0, until: 0 };
+    let mut held = Part { count: 0, until: 0 };
     let mut so_far = before;
     let mut i: u64 = 0;
     while i < g.starts {
@@ -118,7 +118,7 @@ fn row_at(
     sense: Sense,
     rects: &[u64],
     flags: &[u8],
-    side: u64,
+    stride: u64,
     new: &mut [u8],
     g: Grid,
     j: u64,
@@ -127,11 +127,11 @@ fn row_at(
 ) -> Far
     requires { ⌜ Drawn (now rects) ⌝ }
     requires { ⌜ Sized g ⌝ }
-    requires { ⌜ side ≤ 1048577 ⌝ }
+    requires { ⌜ stride ≤ 1048577 ⌝ }
     requires { ⌜ j < g .starts ⌝ }
     requires { ⌜ before .kept ≤ 1099513724929 ⌝ }
     requires { ⌜ NoBetter sense best (before .bound .area) ⌝ }
-    requires { ⌜ HarmlessRow sense (rectsOf (now rects)) (g .n) (g .w) (g .t) (now flags) side j best ⌝ }
+    requires { ⌜ HarmlessRow sense (rectsOf (now rects)) (g .n) (g .w) (g .t) (now flags) stride j best ⌝ }
     ensures { λ r. ⌜ r ≡ farInRow sense best (farArea sense (rectsOf (now (rects .entry))) (g .n) (g .w) (g .t)) (g .t) (j * g .t) (g .starts) before ⌝ }
     ensures { λ r. ⌜ now (new .exit) ≡ flagsInRow sense best (farArea sense (rectsOf (now (rects .entry))) (g .n) (g .w) (g .t)) (g .t) (j * g .t) (j * g .starts) (g .starts) (now (new .entry)) ⌝ }
 {
@@ -142,7 +142,7 @@ fn row_at(
         sense,
         &strip[..len],
         flags,
-        j / 2 * side,
+        j / 2 * stride,
         new,
         j * g.starts,
         g,
@@ -157,15 +157,15 @@ pub(crate) fn rows(
     sense: Sense,
     rects: &[u64],
     flags: &[u8],
-    side: u64,
+    stride: u64,
     new: &mut [u8],
     g: Grid,
     best: Spot,
 ) -> Far
     requires { ⌜ Drawn (now rects) ⌝ }
     requires { ⌜ Sized g ⌝ }
-    requires { ⌜ side ≤ 1048577 ⌝ }
-    requires { ⌜ Harmless sense (rectsOf (now rects)) (g .n) (g .w) (g .t) (now flags) side (best .area) ⌝ }
+    requires { ⌜ stride ≤ 1048577 ⌝ }
+    requires { ⌜ Harmless sense (rectsOf (now rects)) (g .n) (g .w) (g .t) (now flags) stride (best .area) ⌝ }
     ensures { λ r. ⌜ r ≡ farInRows sense (best .area) (farArea sense (rectsOf (now (rects .entry))) (g .n) (g .w) (g .t)) (g .t) (g .starts) (g .starts) (record { bound = best; kept = 0 }) ⌝ }
     ensures { λ r. ⌜ now (new .exit) ≡ flagsInRows sense (best .area) (farArea sense (rectsOf (now (rects .entry))) (g .n) (g .w) (g .t)) (g .t) (g .starts) (g .starts) (now (new .entry)) ⌝ }
 {
@@ -176,7 +176,7 @@ pub(crate) fn rows(
     };
     let mut j: u64 = 0;
     while j < g.starts {
-        so_far = row_at(sense, rects, flags, side, new, g, j, area, so_far);
+        so_far = row_at(sense, rects, flags, stride, new, g, j, area, so_far);
         j += 1;
     }
     so_far

@@ -5,11 +5,11 @@ ghost use Rattle.geometry.specs.Layout.{rectsOf, Drawn};
 ghost use Rattle.extremes.specs.Exact.{extreme};
 ghost use Rattle.zoom.specs.Run.{lastLevel, startsOn, farArea, levelOf, lowEnd, highEnd, isMet, quickRun};
 ghost use Rattle.zoom.specs.Passing.{Harmless, flagsInRows};
-ghost use Rattle.zoom.specs.Grid.{AtStart, endingOf};
+ghost use Rattle.zoom.specs.Grid.{AtStart, nextAfter};
 use crate::End;
-use crate::Ending;
 use crate::Grid;
 use crate::Level;
+use crate::Next;
 use crate::Quick;
 use crate::bounds;
 use crate::standard;
@@ -37,7 +37,7 @@ fn level(
     sense: Sense,
     rects: &[u64],
     flags: &[u8],
-    side: u64,
+    stride: u64,
     new: &mut [u8],
     n: u64,
     w: u64,
@@ -45,16 +45,16 @@ fn level(
     before: Spot,
 ) -> Level
     requires { ⌜ Drawn (now rects) ⌝ }
-    requires { ⌜ (n ≤ 1048576) × (w ≤ n) × (1 ≤ t) × (t ≤ w) × (side ≤ 1048577) ⌝ }
-    requires { ⌜ Harmless sense (rectsOf (now rects)) n w t (now flags) side (before .area) ⌝ }
+    requires { ⌜ (n ≤ 1048576) × (w ≤ n) × (1 ≤ t) × (t ≤ w) × (stride ≤ 1048577) ⌝ }
+    requires { ⌜ Harmless sense (rectsOf (now rects)) n w t (now flags) stride (before .area) ⌝ }
     requires { ⌜ AtStart (rectsOf (now rects)) n w t before ⌝ }
     ensures { λ r. ⌜ r ≡ levelOf sense (rectsOf (now (rects .entry))) n w t before ⌝ }
     ensures { λ r. ⌜ now (new .exit) ≡ flagsInRows sense (r .named .area) (farArea sense (rectsOf (now (rects .entry))) n w t) t (startsOn n w t) (startsOn n w t) (now (new .entry)) ⌝ }
 {
     let starts = starts_on(n, w, t);
     let g = Grid { n, w, t, starts };
-    let best = standard::rows(sense, rects, flags, side, g, before);
-    let far = bounds::rows(sense, rects, flags, side, new, g, best);
+    let best = standard::rows(sense, rects, flags, stride, g, before);
+    let far = bounds::rows(sense, rects, flags, stride, new, g, best);
     let bound = far.bound;
     Level {
         named: best,
@@ -88,21 +88,21 @@ fn is_met(sense: Sense, e: u64, level: Level) -> bool
     1000 * high_end(sense, level) <= (1000 + 2 * e) * low_end(sense, level)
 }
 
-// What follows level j: an answer, or the next level.
-fn ending(sense: Sense, e: u64, v: u64, z: u64, j: u64, this: Level, m: Spot) -> Ending
+// What follows level j.
+fn next_after(sense: Sense, e: u64, v: u64, z: u64, j: u64, this: Level, m: Spot) -> Next
     requires { ⌜ (e ≤ 1000) × (this .named .area ≤ 1099511627776) × (this .limit ≤ 1099511627776) ⌝ }
     requires { ⌜ j ≤ 4 ⌝ }
-    ensures { λ r. ⌜ r ≡ endingOf sense e v z j this m ⌝ }
+    ensures { λ r. ⌜ r ≡ nextAfter sense e v z j this m ⌝ }
 {
     if is_met(sense, e, this) {
-        return Ending::Over(Quick {
+        return Next::Over(Quick {
             end: End::Met,
             done: j + 1,
             last: this,
         });
     }
     if v <= j + 1 {
-        return Ending::Over(Quick {
+        return Next::Over(Quick {
             end: End::Stopped,
             done: j + 1,
             last: this,
@@ -115,13 +115,13 @@ fn ending(sense: Sense, e: u64, v: u64, z: u64, j: u64, this: Level, m: Spot) ->
             limit: m.area,
             kept: 0,
         };
-        return Ending::Over(Quick {
+        return Next::Over(Quick {
             end: End::Exact,
             done: j + 2,
             last,
         });
     }
-    Ending::Open
+    Next::Deeper
 }
 
 // The run for either extreme. `old` has the flags of the level before, none at
@@ -136,18 +136,18 @@ pub(crate) fn run(sense: Sense, rects: &[u64], n: u64, w: u64, e: u64, v: u64, m
     let mut old = [0u8; 262144];
     let mut new = [0u8; 262144];
     let mut before = extremes::first_window(rects, w);
-    let mut side: u64 = 0;
+    let mut stride: u64 = 0;
     let mut t = w;
     let mut j: u64 = 0;
     loop {
-        let this = level(sense, rects, &old, side, &mut new, n, w, t, before);
-        let next = ending(sense, e, v, z, j, this, m);
-        if let Ending::Over(answer) = next {
+        let this = level(sense, rects, &old, stride, &mut new, n, w, t, before);
+        let next = next_after(sense, e, v, z, j, this, m);
+        if let Next::Over(answer) = next {
             return answer;
         }
         bytes::copy(&new, &mut old);
         before = this.named;
-        side = starts_on(n, w, t);
+        stride = starts_on(n, w, t);
         t = t / 2;
         j += 1;
     }

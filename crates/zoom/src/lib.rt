@@ -52,7 +52,7 @@ struct Grid {
 
 // What the front of a buffer holds of a row's strip: `count` numbers, which
 // suffice for the starts before `until`.
-struct Held {
+struct Part {
     count: usize,
     until: u64,
 }
@@ -64,10 +64,10 @@ struct Far {
     kept: u64,
 }
 
-// Whether the run is over after a level.
-enum Ending {
+// What follows a level: the answer of a run that is over, or a deeper level.
+enum Next {
     Over(Quick),
-    Open,
+    Deeper,
 }
 
 // The quick run for the greatest window. The exact run's window comes in, so

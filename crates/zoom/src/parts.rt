@@ -3,9 +3,9 @@
 ghost use Prim.Native.Nat.{_+_, _≤_, _<_};
 ghost use lib.ListN.{length};
 ghost use Rattle.geometry.specs.Overlaps.{StripSmall};
-ghost use Rattle.zoom.specs.Grid.{Sized, Meets};
+ghost use Rattle.zoom.specs.Grid.{Sized, Serves};
 use crate::Grid;
-use crate::Held;
+use crate::Part;
 use crate::spans::span_from;
 use crate::spans::span_to;
 use geometry::Sense;
@@ -14,15 +14,15 @@ use geometry::Sense;
 const MORE: u64 = 31;
 
 // Writes the part for the starts from i on.
-fn part_from(sense: Sense, strip: &[u64], g: Grid, t: u64, i: u64, out: &mut [u64]) -> Held
+fn part_from(sense: Sense, strip: &[u64], g: Grid, t: u64, i: u64, out: &mut [u64]) -> Part
     requires { ⌜ StripSmall (now strip) × (length (now strip) ≤ length (now out)) ⌝ }
     requires { ⌜ Sized g × (t ≤ g .w) × (i < g .starts) ⌝ }
-    ensures { λ r. ⌜ Meets sense (now (strip .entry)) g t i r (now (out .exit)) × (i < r .until) ⌝ }
+    ensures { λ r. ⌜ Serves sense (now (strip .entry)) g t i r (now (out .exit)) × (i < r .until) ⌝ }
 {
     let from = span_from(sense, t, i * g.t);
     let to = span_to(sense, g.n, g.w, t, (i + MORE) * g.t);
     let count = geometry::narrow(strip, from, to, out);
-    Held {
+    Part {
         count,
         until: i + MORE + 1,
     }
@@ -35,13 +35,13 @@ pub(crate) fn part_at(
     g: Grid,
     t: u64,
     i: u64,
-    held: Held,
+    held: Part,
     out: &mut [u64],
-) -> Held
+) -> Part
     requires { ⌜ StripSmall (now strip) × (length (now strip) ≤ length (now out)) ⌝ }
     requires { ⌜ Sized g × (t ≤ g .w) × (i < g .starts) ⌝ }
-    requires { ⌜ Meets sense (now strip) g t i held (now out) ⌝ }
-    ensures { λ r. ⌜ Meets sense (now (strip .entry)) g t i r (now (out .exit)) × (i < r .until) ⌝ }
+    requires { ⌜ Serves sense (now strip) g t i held (now out) ⌝ }
+    ensures { λ r. ⌜ Serves sense (now (strip .entry)) g t i r (now (out .exit)) × (i < r .until) ⌝ }
 {
     if i < held.until {
         return held;

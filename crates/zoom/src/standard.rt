@@ -9,7 +9,7 @@ ghost use Rattle.extremes.specs.Exact.{windowArea};
 ghost use Rattle.zoom.specs.Passing.{HarmlessRow, Harmless};
 ghost use Rattle.zoom.specs.Grid.{Sized, alongStrip, Spares};
 use crate::Grid;
-use crate::Held;
+use crate::Part;
 use crate::flags::flag_at;
 use crate::parts::part_at;
 use crate::spans::along_strip;
@@ -36,7 +36,7 @@ fn row(sense: Sense, strip: &[u64], flags: &[u8], above: u64, g: Grid, y: u64, b
     ensures { λ r. ⌜ r ≡ bestInRow sense (alongStrip sense (now (strip .entry)) (g .n) (g .w) 0) (g .t) y (g .starts) before ⌝ }
 {
     let mut near = [0u64; 4096];
-    let mut held = Held { count: 0, until: 0 };
+    let mut held = Part { count: 0, until: 0 };
     let mut best = before;
     let mut i: u64 = 0;
     while i < g.starts {
@@ -56,22 +56,22 @@ fn row_at(
     sense: Sense,
     rects: &[u64],
     flags: &[u8],
-    side: u64,
+    stride: u64,
     g: Grid,
     j: u64,
     before: Spot,
 ) -> Spot
     requires { ⌜ Drawn (now rects) ⌝ }
     requires { ⌜ Sized g ⌝ }
-    requires { ⌜ side ≤ 1048577 ⌝ }
+    requires { ⌜ stride ≤ 1048577 ⌝ }
     requires { ⌜ j < g .starts ⌝ }
-    requires { ⌜ HarmlessRow sense (rectsOf (now rects)) (g .n) (g .w) (g .t) (now flags) side j (before .area) ⌝ }
+    requires { ⌜ HarmlessRow sense (rectsOf (now rects)) (g .n) (g .w) (g .t) (now flags) stride j (before .area) ⌝ }
     ensures { λ r. ⌜ r ≡ bestInRow sense (windowArea (rectsOf (now (rects .entry))) (g .w)) (g .t) (j * g .t) (g .starts) before ⌝ }
 {
     let y = j * g.t;
     let mut strip = [0u64; 4096];
     let len = strip_at(sense, rects, g, 0, y, &mut strip);
-    row(sense, &strip[..len], flags, j / 2 * side, g, y, before)
+    row(sense, &strip[..len], flags, j / 2 * stride, g, y, before)
 }
 
 // All rows.
@@ -79,20 +79,20 @@ pub(crate) fn rows(
     sense: Sense,
     rects: &[u64],
     flags: &[u8],
-    side: u64,
+    stride: u64,
     g: Grid,
     before: Spot,
 ) -> Spot
     requires { ⌜ Drawn (now rects) ⌝ }
     requires { ⌜ Sized g ⌝ }
-    requires { ⌜ side ≤ 1048577 ⌝ }
-    requires { ⌜ Harmless sense (rectsOf (now rects)) (g .n) (g .w) (g .t) (now flags) side (before .area) ⌝ }
+    requires { ⌜ stride ≤ 1048577 ⌝ }
+    requires { ⌜ Harmless sense (rectsOf (now rects)) (g .n) (g .w) (g .t) (now flags) stride (before .area) ⌝ }
     ensures { λ r. ⌜ r ≡ bestInRows sense (windowArea (rectsOf (now (rects .entry))) (g .w)) (g .t) (g .starts) (g .starts) before ⌝ }
 {
     let mut best = before;
     let mut j: u64 = 0;
     while j < g.starts {
-        best = row_at(sense, rects, flags, side, g, j, best);
+        best = row_at(sense, rects, flags, stride, g, j, best);
         j += 1;
     }
     best

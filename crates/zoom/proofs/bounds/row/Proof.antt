@@ -6,23 +6,23 @@ use native.Mathlib.Omega.{arith}
 use borrow.Author.Needs.{needs}
 use lib.ListN.{length}
 use Rattle.geometry.specs.Extreme.{spotAt}
-use Rattle.zoom.specs.Grid.{alongStrip, Meets}
+use Rattle.zoom.specs.Grid.{alongStrip, Serves}
 use Rattle.zoom.proofs.Passes.{starts-small, start-inside, weighs-nothing, weighed-at}
 use Rattle.zoom.proofs.Passes.{RowSoFar, row-begins, row-bound-stays, row-few, row-length, row-advances, row-is-done}
-use Rattle.zoom.proofs.Holding.{meets-none, meets-next, meets-count}
+use Rattle.zoom.proofs.Serving.{serves-none, serves-next, serves-count}
 use Rattle.zoom.proofs.bounds.row.Statement.{statement}
 use Rattle.zoom.proofs.bounds.row.Tie as tie
 
 abbrev Inv-loop : tie.InvT-loop
 Inv-loop sense strip flags above new₀ at g y best near₀ held₀ so-far₀ i₀ new near held so-far i =
-    (i ≤ g .starts) × (length near ≡ 4096) × Meets sense strip g (g .t) i held near
+    (i ≤ g .starts) × (length near ≡ 4096) × Serves sense strip g (g .t) i held near
     × RowSoFar sense best (alongStrip sense strip (g .n) (g .w) (g .t)) (g .t) y at i so-far₀ so-far new₀ new
 
 abbrev μ-loop : tie.MeasureT-loop
 μ-loop sense strip flags above new₀ at g y best near₀ held₀ so-far₀ i₀ new near held so-far i = g .starts - i
 
 loop-holds : tie.Need-loop-holds Inv-loop μ-loop
-loop-holds c = (omega arith, refl, meets-none _ _ _ _ _, row-begins _ _ _ _ _ _ _ _)
+loop-holds c = (omega arith, refl, serves-none _ _ _ _ _, row-begins _ _ _ _ _ _ _ _)
 
 add-flag-at : tie.Need-add-flag-at Inv-loop μ-loop
 add-flag-at c =
@@ -45,7 +45,7 @@ loop-again c =
     let stands = row-bound-stays _ _ _ _ _ _ _ _ _ _ _ (at .inv .3) (start .pre .1 .1 .1 .1 .1 .0) in (
       search needs,
       at .inv .1,
-      meets-next _ _ _ _ _ _ _ (at .inv .2),
+      serves-next _ _ _ _ _ _ _ (at .inv .2),
       row-advances _ _ _ _ _ _ _ _ _ _ _ (at .inv .3) _ _
           (weighs-nothing (a .sense) (a .best) (spotAt f (at .i * a .g .t) (a .y)) (a .at + at .i) (at .so-far) _ _ spare stands (c .before .before .put-flag .ensures)),
     )
@@ -64,7 +64,7 @@ array-share-prefix-near : tie.Need-array-share-prefix-near Inv-loop μ-loop
 array-share-prefix-near c = c .before .part-at .ensures .0 .fits
 
 slice-aggregate-look : tie.Need-slice-aggregate-look Inv-loop μ-loop
-slice-aggregate-look c = meets-count _ _ _ _ _ _ _ (c .before .before .part-at .ensures .0)
+slice-aggregate-look c = serves-count _ _ _ _ _ _ _ (c .before .before .part-at .ensures .0)
 
 add-look : tie.Need-add-look Inv-loop μ-loop
 add-look c =
@@ -104,7 +104,7 @@ loop-again-2 c =
     let same = part .ensures .0 .same (at .i) (a .y) (omega arith) (part .ensures .1) in (
       omega (arith, c .before .before .before .before .before .before .before .before .before .before .before .if1 .taken),
       part .kept .1 .1 .1 .1 .1 .1 .0 ∙ at .inv .1,
-      meets-next _ _ _ _ _ _ _ (part .ensures .0),
+      serves-next _ _ _ _ _ _ _ (part .ensures .0),
       row-advances _ _ _ _ _ _ _ _ _ _ _ (at .inv .3) _ _
           (weighed-at (a .sense) (a .best) _ (at .i * a .g .t) (a .y) (a .at + at .i) f (at .so-far) (look .result) _ _ same
           (record { search = look .ensures .0; flags = look .ensures .1 })),

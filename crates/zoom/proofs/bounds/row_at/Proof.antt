@@ -29,7 +29,7 @@ slice-aggregate-row c = front-count _ _ _ _ (c .before .before .strip-at .ensure
 mul-row : tie.Need-mul-row
 mul-row c =
     let start = c .before .before .before .before .before .before .before .before in
-    omega (arith, row-above (start .args .g) (start .args .j) (start .args .side) (start .pre .1 .0) (start .pre .1 .1 .1 .0) (start .pre .1 .1 .0))
+    omega (arith, row-above (start .args .g) (start .args .j) (start .args .stride) (start .pre .1 .0) (start .pre .1 .1 .1 .0) (start .pre .1 .1 .0))
 
 mul-row-2 : tie.Need-mul-row-2
 mul-row-2 c =
@@ -48,14 +48,14 @@ row-requires c κs =
       (
         z,
         (
-          row-above (a .g) (a .j) (a .side) z within (start .pre .1 .1 .0),
+          row-above (a .g) (a .j) (a .stride) z within (start .pre .1 .1 .0),
           (
             row-place (a .g) (a .j) z (omega arith),
             (
               start .pre .1 .1 .1 .1 .0,
               (
                 start .pre .1 .1 .1 .1 .1 .0,
-                harmless-far (a .sense) (rectsOf (a .rects .now)) (a .g) (a .j) _ (a .flags .now) (a .side) (a .best) z reads (start .pre .1 .1 .1 .1 .1 .1),
+                harmless-far (a .sense) (rectsOf (a .rects .now)) (a .g) (a .j) _ (a .flags .now) (a .stride) (a .best) z reads (start .pre .1 .1 .1 .1 .1 .1),
               ),
             ),
           ),

@@ -10,11 +10,11 @@ use Rattle.zoom.proofs.bounds.rows.Statement.{statement}
 use Rattle.zoom.proofs.bounds.rows.Tie as tie
 
 abbrev Inv-loop : tie.InvT-loop
-Inv-loop sense rects flags side new₀ g area so-far₀ j₀ new so-far j =
+Inv-loop sense rects flags stride new₀ g area so-far₀ j₀ new so-far j =
     (j ≤ g .starts) × RowsSoFar sense area (farArea sense (rectsOf rects) (g .n) (g .w) (g .t)) (g .t) (g .starts) j so-far₀ so-far new₀ new
 
 abbrev μ-loop : tie.MeasureT-loop
-μ-loop sense rects flags side new₀ g area so-far₀ j₀ new so-far j = g .starts - j
+μ-loop sense rects flags stride new₀ g area so-far₀ j₀ new so-far j = g .starts - j
 
 loop-holds : tie.Need-loop-holds Inv-loop μ-loop
 loop-holds c = (omega arith, rows-begin _ _ _ _ _ _ _)

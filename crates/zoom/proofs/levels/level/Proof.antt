@@ -19,7 +19,7 @@ rows-requires-2 c κs =
         z,
         (
           start .pre .1 .0 .4,
-          harmless-on (a .sense) (rectsOf (a .rects .now)) g (a .flags .now) (a .side) (a .before) (c .before .rows .result) (c .before .rows .ensures)
+          harmless-on (a .sense) (rectsOf (a .rects .now)) g (a .flags .now) (a .stride) (a .before) (c .before .rows .result) (c .before .rows .ensures)
               (start .pre .1 .1 .0),
         ),
       ),

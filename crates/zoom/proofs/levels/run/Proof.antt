@@ -10,10 +10,10 @@ use Rattle.zoom.proofs.levels.run.Statement.{statement}
 use Rattle.zoom.proofs.levels.run.Tie as tie
 
 abbrev Inv-loop : tie.InvT-loop
-Inv-loop sense rects n w e v m z old₀ new₀ before₀ side₀ t₀ j₀ old new before side t j = RunSoFar sense (rectsOf rects) n w e v z old new before side t j
+Inv-loop sense rects n w e v m z old₀ new₀ before₀ stride₀ t₀ j₀ old new before stride t j = RunSoFar sense (rectsOf rects) n w e v z old new before stride t j
 
 abbrev μ-loop : tie.MeasureT-loop
-μ-loop sense rects n w e v m z old₀ new₀ before₀ side₀ t₀ j₀ old new before side t j = z - j
+μ-loop sense rects n w e v m z old₀ new₀ before₀ stride₀ t₀ j₀ old new before stride t j = z - j
 
 loop-holds : tie.Need-loop-holds Inv-loop μ-loop
 loop-holds c =
@@ -34,8 +34,8 @@ level-requires c κs =
     let step = run-step _ _ _ _ _ _ _ _ _ _ _ _ _ (at .inv) (start .pre .1 .0 .0) in
     (start .pre .0, ((start .pre .1 .0 .2, start .pre .1 .0 .1, step .0, step .1, at .inv .few), (at .inv .spare, at .inv .start)))
 
-ending-requires : tie.Need-ending-requires Inv-loop μ-loop
-ending-requires c κs =
+next-after-requires : tie.Need-next-after-requires Inv-loop μ-loop
+next-after-requires c κs =
     let start = c .before .before .before .before .before .before .before .before in
     let so-far = c .before .before .before .before .loop .inv in
     let p = start .pre .1 .0 in
@@ -47,9 +47,9 @@ returns c =
     let start = c .before .before .before .before .before .before .before .before .before .before .before .before in
     let so-far = c .before .before .before .before .before .before .before .before .loop .inv in
     let level = c .before .before .before .before .before .level in
-    let ending = c .before .before .before .ending in
-    run-answers _ _ _ _ _ _ _ _ _ _ _ _ _ so-far (start .pre .1 .0 .0) (level .result) (start .args .m) (ending .result) (c .before .next .given .0 .0)
-    (level .ensures .0) (start .pre .1 .1) (ending .ensures) (c .before .next .given .1)
+    let next = c .before .before .before .next-after in
+    run-answers _ _ _ _ _ _ _ _ _ _ _ _ _ so-far (start .pre .1 .0 .0) (level .result) (start .args .m) (next .result) (c .before .next .given .0 .0)
+    (level .ensures .0) (start .pre .1 .1) (next .ensures) (c .before .next .given .1)
 
 slice-aggregate-copy : tie.Need-slice-aggregate-copy Inv-loop μ-loop
 slice-aggregate-copy c =
@@ -83,10 +83,10 @@ loop-again c =
     let start = c .before .before .before .before .before .before .before .before .before .before .before .before .before .before .before .before .before in
     let so-far = c .before .before .before .before .before .before .before .before .before .before .before .before .before .loop .inv in
     let level = c .before .before .before .before .before .before .before .before .before .before .level in
-    let ending = c .before .before .before .before .before .before .before .before .ending in
+    let next = c .before .before .before .before .before .before .before .before .next-after in
     let p = start .pre .1 .0 in
-    run-goes-on _ _ _ _ _ _ _ _ _ _ _ _ _ so-far (p .0) (level .result) (start .args .m) (ending .result) _ (level .last .1 .1 .1 .1 .0) _ (p .2)
-    (record { answer = level .ensures .0; flags = level .ensures .1 }) (start .pre .1 .1) (ending .ensures)
+    run-goes-on _ _ _ _ _ _ _ _ _ _ _ _ _ so-far (p .0) (level .result) (start .args .m) (next .result) _ (level .last .1 .1 .1 .1 .0) _ (p .2)
+    (record { answer = level .ensures .0; flags = level .ensures .1 }) (start .pre .1 .1) (next .ensures)
     (c .before .before .before .before .before .before .enum-told .given .1) (level .kept .1 .1 .1 .1 .0) (c .before .before .before .copy .ensures .1)
     (c .starts-on .ensures)
 
@@ -105,7 +105,7 @@ run-spec =
     slice-aggregate-level
     slice-aggregate-level-2
     level-requires
-    ending-requires
+    next-after-requires
     (λ c. search needs)
     returns
     (λ c. search needs)

@@ -2,7 +2,7 @@
 use native.Mathlib.Omega.{arith}
 use borrow.Author.Needs.{needs}
 use Rattle.zoom.proofs.Passes.{starts-small, start-inside}
-use Rattle.zoom.proofs.Holding.{starts-further, meets-narrowed}
+use Rattle.zoom.proofs.Serving.{starts-further, serves-narrowed}
 use Rattle.zoom.proofs.parts.part_from.Statement.{statement}
 use Rattle.zoom.proofs.parts.part_from.Tie as tie
 
@@ -52,7 +52,7 @@ returns c =
     let to = c .before .before .before .before .span-to in
     let from = c .before .before .before .before .before .before .span-from in
     let written = rw (to .ensures, from .ensures) at (c .before .before .narrow .ensures) in
-    (meets-narrowed (a .sense) (a .strip .now) (a .g) (a .t) (a .i) 31 _ _ _ (start .pre .0 .0) written (start .pre .0 .1), omega arith)
+    (serves-narrowed (a .sense) (a .strip .now) (a .g) (a .t) (a .i) 31 _ _ _ (start .pre .0 .0) written (start .pre .0 .1), omega arith)
 
 pub part-from-spec : {M : Type 1} → statement M
 part-from-spec =

@@ -8,15 +8,15 @@ use lib.ListN.{length}
 use Rattle.geometry.specs.declared.Spot.{Spot}
 use Rattle.geometry.specs.Extreme.{spotAt, bestInRow}
 use Rattle.geometry.proofs.Extremes.{step-skip}
-use Rattle.zoom.specs.Grid.{alongStrip, Meets}
+use Rattle.zoom.specs.Grid.{alongStrip, Serves}
 use Rattle.zoom.proofs.Passes.{starts-small, start-inside, looked-at, row-spares, row-next, all-done}
-use Rattle.zoom.proofs.Holding.{meets-none, meets-next, meets-count}
+use Rattle.zoom.proofs.Serving.{serves-none, serves-next, serves-count}
 use Rattle.zoom.proofs.standard.row.Statement.{statement}
 use Rattle.zoom.proofs.standard.row.Tie as tie
 
 abbrev Inv-loop : tie.InvT-loop
 Inv-loop sense strip flags above g y near₀ held₀ best₀ i₀ near held best i =
-    (i ≤ g .starts) × (length near ≡ 4096) × Meets sense strip g 0 i held near
+    (i ≤ g .starts) × (length near ≡ 4096) × Serves sense strip g 0 i held near
     × (best ≡ bestInRow sense (alongStrip sense strip (g .n) (g .w) 0) (g .t) y i best₀)
 
 abbrev μ-loop : tie.MeasureT-loop
@@ -24,7 +24,7 @@ abbrev μ-loop : tie.MeasureT-loop
 
 loop-holds : tie.Need-loop-holds Inv-loop μ-loop
 unfolding bestInRow
-loop-holds c = (omega arith, refl, meets-none _ _ _ _ _, refl)
+loop-holds c = (omega arith, refl, serves-none _ _ _ _ _, refl)
 
 add-flag-at : tie.Need-add-flag-at Inv-loop μ-loop
 add-flag-at c =
@@ -42,7 +42,7 @@ loop-again c =
     let spare = row-spares (a .sense) f (a .g .t) (a .y) (at .i) (a .before) (at .best) (at .inv .3) (a .g .starts) (a .flags .now) (a .above) (start .pre .1 .1 .1) more flagged in (
       omega arith,
       at .inv .1,
-      meets-next _ _ _ _ _ _ _ (at .inv .2),
+      serves-next _ _ _ _ _ _ _ (at .inv .2),
       row-next (a .sense) f (a .g .t) (a .y) (at .i) (a .before) (at .best) (at .inv .3) (at .best)
           (sym (step-skip (a .sense) (at .best) (spotAt f (at .i * a .g .t) (a .y)) spare)),
     )
@@ -60,7 +60,7 @@ array-share-prefix-near : tie.Need-array-share-prefix-near Inv-loop μ-loop
 array-share-prefix-near c = c .before .part-at .ensures .0 .fits
 
 slice-aggregate-look : tie.Need-slice-aggregate-look Inv-loop μ-loop
-slice-aggregate-look c = meets-count _ _ _ _ _ _ _ (c .before .before .part-at .ensures .0)
+slice-aggregate-look c = serves-count _ _ _ _ _ _ _ (c .before .before .part-at .ensures .0)
 
 mul-look : tie.Need-mul-look Inv-loop μ-loop
 mul-look c =
@@ -87,7 +87,7 @@ loop-again-2 c =
     let x = at .i * a .g .t in (
       omega arith,
       part .kept .1 .1 .1 .1 .1 .1 .0 ∙ at .inv .1,
-      meets-next _ _ _ _ _ _ _ (part .ensures .0),
+      serves-next _ _ _ _ _ _ _ (part .ensures .0),
       row-next (a .sense) f (a .g .t) (a .y) (at .i) (a .before) (at .best) (at .inv .3) (c .look .result)
           (looked-at (a .sense) f x (a .y) _ (at .best) (c .look .result) (part .ensures .0 .same (at .i) (a .y) (omega arith) (part .ensures .1)) (c .look .ensures)),
     )

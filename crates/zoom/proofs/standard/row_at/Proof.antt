@@ -28,7 +28,7 @@ slice-aggregate-row c = front-count _ _ _ _ (c .before .before .strip-at .ensure
 mul-row : tie.Need-mul-row
 mul-row c =
     let start = c .before .before .before .before .before .before .before in
-    omega (arith, row-above (start .args .g) (start .args .j) (start .args .side) (start .pre .1 .0) (start .pre .1 .1 .1 .0) (start .pre .1 .1 .0))
+    omega (arith, row-above (start .args .g) (start .args .j) (start .args .stride) (start .pre .1 .0) (start .pre .1 .1 .1 .0) (start .pre .1 .1 .0))
 
 row-requires : tie.Need-row-requires
 row-requires c κs =
@@ -40,8 +40,8 @@ row-requires c κs =
       (
         start .pre .1 .0,
         (
-          omega (arith, row-above (start .args .g) (start .args .j) (start .args .side) (start .pre .1 .0) (start .pre .1 .1 .1 .0) (start .pre .1 .1 .0)),
-          harmless-standard (a .sense) (rectsOf (a .rects .now)) (a .g) (a .j) _ (a .flags .now) (a .side) (a .before .area) (start .pre .1 .0) (start .pre .1 .1 .1 .0) reads
+          omega (arith, row-above (start .args .g) (start .args .j) (start .args .stride) (start .pre .1 .0) (start .pre .1 .1 .1 .0) (start .pre .1 .1 .0)),
+          harmless-standard (a .sense) (rectsOf (a .rects .now)) (a .g) (a .j) _ (a .flags .now) (a .stride) (a .before .area) (start .pre .1 .0) (start .pre .1 .1 .1 .0) reads
               (start .pre .1 .1 .1 .1),
         ),
       ),

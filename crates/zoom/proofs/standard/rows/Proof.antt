@@ -12,10 +12,10 @@ use Rattle.zoom.proofs.standard.rows.Statement.{statement}
 use Rattle.zoom.proofs.standard.rows.Tie as tie
 
 abbrev Inv-loop : tie.InvT-loop
-Inv-loop sense rects flags side g best₀ j₀ best j = (j ≤ g .starts) × (best ≡ bestInRows sense (windowArea (rectsOf rects) (g .w)) (g .t) (g .starts) j best₀)
+Inv-loop sense rects flags stride g best₀ j₀ best j = (j ≤ g .starts) × (best ≡ bestInRows sense (windowArea (rectsOf rects) (g .w)) (g .t) (g .starts) j best₀)
 
 abbrev μ-loop : tie.MeasureT-loop
-μ-loop sense rects flags side g best₀ j₀ best j = g .starts - j
+μ-loop sense rects flags stride g best₀ j₀ best j = g .starts - j
 
 loop-holds : tie.Need-loop-holds Inv-loop μ-loop
 unfolding bestInRows
@@ -28,7 +28,7 @@ row-at-requires c κs =
     let at = c .before .before .loop in
     let spare =
     rows-spare (a .sense) (windowArea (rectsOf (a .rects .now)) (a .g .w)) (a .g .t) (a .g .starts) (at .j) (a .before) (at .best) (at .inv .1)
-    (rectsOf (a .rects .now)) (a .g .n) (a .g .w) (a .flags .now) (a .side) (start .pre .1 .1 .1 (at .j) (rw (start .pre .1 .0 .count) at (c .if1 .taken))) in
+    (rectsOf (a .rects .now)) (a .g .n) (a .g .w) (a .flags .now) (a .stride) (start .pre .1 .1 .1 (at .j) (rw (start .pre .1 .0 .count) at (c .if1 .taken))) in
     (start .pre .0, (start .pre .1 .0, (start .pre .1 .1 .0, (c .if1 .taken, spare))))
 
 loop-again : tie.Need-loop-again Inv-loop μ-loop

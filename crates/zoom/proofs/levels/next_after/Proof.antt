@@ -1,8 +1,8 @@
--- `zoom::levels::ending` meets its contract: each return by the tests that led to it. Assumes nothing.
+-- `zoom::levels::next_after` meets its contract: each return by the tests that led to it. Assumes nothing.
 use borrow.Author.Needs.{needs}
-use Rattle.zoom.proofs.Zooming.{ends-met, ends-stopped, ends-exact, ends-open}
-use Rattle.zoom.proofs.levels.ending.Statement.{statement}
-use Rattle.zoom.proofs.levels.ending.Tie as tie
+use Rattle.zoom.proofs.Zooming.{ends-met, ends-stopped, ends-exact, ends-deeper}
+use Rattle.zoom.proofs.levels.next_after.Statement.{statement}
+use Rattle.zoom.proofs.levels.next_after.Tie as tie
 
 returns : tie.Need-returns
 returns c =
@@ -26,11 +26,11 @@ returns-4 : tie.Need-returns-4
 returns-4 c =
     let a = c .before .before .before .before .args in
     let met = c .before .before .before .is-met in
-    ends-open (a .sense) (a .e) (a .v) (a .z) (a .j) (a .this) (a .m) (met .result) (met .ensures) (c .before .before .if1 .left) (c .before .if2 .left)
+    ends-deeper (a .sense) (a .e) (a .v) (a .z) (a .j) (a .this) (a .m) (met .result) (met .ensures) (c .before .before .if1 .left) (c .before .if2 .left)
     (c .if3 .left)
 
-pub ending-spec : {M : Type 1} → statement M
-ending-spec =
+pub next-after-spec : {M : Type 1} → statement M
+next-after-spec =
     tie.close
     (tie.spec (λ c κs. search needs) (λ c. search needs) returns (λ c. search needs) (λ c. search needs) returns-2 (λ c κs. search needs) (λ c. search needs)
     returns-3 returns-4)

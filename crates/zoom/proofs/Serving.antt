@@ -13,23 +13,23 @@ use Rattle.geometry.specs.Overlaps.{stripSum, narrowed, StripSmall}
 use Rattle.buffers.proofs.Fronts.{front-take, front-fits}
 use Rattle.geometry.proofs.Strips.{narrowed-sum, narrowed-small}
 use Rattle.zoom.specs.declared.Grid.{Grid}
-use Rattle.zoom.specs.declared.Held.{Held}
-use Rattle.zoom.specs.Grid.{Sized, spanFrom, spanTo, Meets}
+use Rattle.zoom.specs.declared.Part.{Part}
+use Rattle.zoom.specs.Grid.{Sized, spanFrom, spanTo, Serves}
 use Rattle.zoom.proofs.Passes.{start-inside}
 
 -- at first nothing is held, for no start
-pub meets-none : (s : Sense) (strip : List ℕ) (g : Grid) (t : ℕ) (buffer : List ℕ) → Meets s strip g t 0 (record { count = 0; until = 0 }) buffer
-meets-none s strip g t buffer =
+pub serves-none : (s : Sense) (strip : List ℕ) (g : Grid) (t : ℕ) (buffer : List ℕ) → Serves s strip g t 0 (record { count = 0; until = 0 }) buffer
+serves-none s strip g t buffer =
     record { fits = omega arith; small = record { few = omega arith; small = λ i. omega arith }; same = λ k y h l. absurd (omega arith) }
 
 -- what is held for start i is held for those after it
-pub meets-next : (s : Sense) (strip : List ℕ) (g : Grid) (t i : ℕ) (held : Held) (buffer : List ℕ) → Meets s strip g t i held buffer →
-    Meets s strip g t (i + 1) held buffer
-meets-next s strip g t i held buffer m = record { fits = m .fits; small = m .small; same = λ k y h l. m .same k y (omega arith) l }
+pub serves-next : (s : Sense) (strip : List ℕ) (g : Grid) (t i : ℕ) (held : Part) (buffer : List ℕ) → Serves s strip g t i held buffer →
+    Serves s strip g t (i + 1) held buffer
+serves-next s strip g t i held buffer m = record { fits = m .fits; small = m .small; same = λ k y h l. m .same k y (omega arith) l }
 
-pub meets-count : (s : Sense) (strip : List ℕ) (g : Grid) (t i : ℕ) (held : Held) (buffer : List ℕ) → Meets s strip g t i held buffer →
+pub serves-count : (s : Sense) (strip : List ℕ) (g : Grid) (t i : ℕ) (held : Part) (buffer : List ℕ) → Serves s strip g t i held buffer →
     held .count ≡ length (take (held .count) buffer)
-meets-count s strip g t i held buffer m = sym (length-take-le (held .count) buffer (m .fits))
+serves-count s strip g t i held buffer m = sym (length-take-le (held .count) buffer (m .fits))
 
 -- a window further on begins and ends no earlier
 from-grows : (s : Sense) (t a b : ℕ) → a ≤ b → spanFrom s t a ≤ spanFrom s t b
@@ -41,11 +41,11 @@ to-grows Greatest n w t a b h = omega arith
 to-grows Least n w t a b h = omega arith
 
 -- what meets the columns from the first window's begin to the last one's end serves these and all between
-pub meets-narrowed : (s : Sense) (strip : List ℕ) (g : Grid) (t i more : ℕ) (before after : List ℕ) (r : ℕ) → StripSmall strip →
+pub serves-narrowed : (s : Sense) (strip : List ℕ) (g : Grid) (t i more : ℕ) (before after : List ℕ) (r : ℕ) → StripSmall strip →
     Front before (narrowed strip (spanFrom s t (i * g .t)) (spanTo s (g .n) (g .w) t ((i + more) * g .t))) after r →
     length strip ≤ length before →
-    Meets s strip g t i (record { count = r; until = i + more + 1 }) after
-meets-narrowed s strip g t i more before after r z e room =
+    Serves s strip g t i (record { count = r; until = i + more + 1 }) after
+serves-narrowed s strip g t i more before after r z e room =
     record {
       fits = front-fits _ _ _ _ e;
       small = rw taken (narrowed-small strip from to z);
