@@ -3,6 +3,7 @@
 use fill::Verdict;
 use jobfile::Head;
 use jobfile::Job;
+use zoom::Asked;
 ghost use mathlib.Core.Path.{_≡_};
 ghost use Rattle.jobfile.specs.File.{outcomeOf};
 ghost use Rattle.unit.specs.Answering.{answerOf};
@@ -27,7 +28,13 @@ fn ceiling(head: Head, rects: &[u64], amounts: &[u64]) -> u64
     let window = head.window;
     let exact = extremes::exact_run(rects, size, window);
     let greatest = exact.greatest;
-    let quick = zoom::quick_run(rects, size, window, head.accuracy, head.levels, greatest);
+    let asked = Asked {
+        size,
+        window,
+        accuracy: head.accuracy,
+        levels: head.levels,
+    };
+    let quick = zoom::quick_run(rects, asked, greatest);
     quick.last.limit
 }
 

@@ -27,8 +27,9 @@ use Rattle.zoom.specs.declared.End.the-variants.{Met}
 use Rattle.zoom.specs.declared.Level.{Level}
 use Rattle.zoom.specs.declared.Quick.{Quick}
 use Rattle.zoom.specs.Run.{lastLevel, levelStep, startsOn, bloated, shrunk, farArea, bestStart, levelOf, levelAt, lowEnd, highEnd, isMet, afterLevel, exactEnd, runFrom, quickRun}
-use Rattle.zoom.specs.Passing.{NoBetter}
+use Rattle.zoom.specs.Limits.{sideRoom, areaRoom, LevelSmall}
 use Rattle.zoom.specs.Grid.{AtStart}
+use Rattle.zoom.specs.Passing.{NoBetter}
 use Rattle.zoom.proofs.Folds.{no-better-trans, replaced-stays, replaced-area, rows-are, rows-see, rows-replace}
 use Rattle.zoom.proofs.Steps.{step-halves, step-positive}
 use Rattle.zoom.proofs.Starts.{Below, at-start, start-stays, start-fits, start-below, half-start, window-within, far-halves}
@@ -365,31 +366,26 @@ empty-layout s n w e v =
 
 -- ---- bounds
 
-box-small : (rs : List Rect) (b : Rect) → b .x2 - b .x1 ≤ 1048576 → b .y2 - b .y1 ≤ 1048576 → coveredArea rs b ≤ 1099511627776
+box-small : (rs : List Rect) (b : Rect) → b .x2 - b .x1 ≤ sideRoom → b .y2 - b .y1 ≤ sideRoom → coveredArea rs b ≤ areaRoom
 box-small rs b h k = omega (arith, area-small rs b, small-product (b .x2 - b .x1) (b .y2 - b .y1) h k)
 
-far-small : (s : Sense) (rs : List Rect) (n w t x y : ℕ) → n ≤ 1048576 → w ≤ n → farArea s rs n w t x y ≤ 1099511627776
+far-small : (s : Sense) (rs : List Rect) (n w t x y : ℕ) → n ≤ sideRoom → w ≤ n → farArea s rs n w t x y ≤ areaRoom
 far-small Greatest rs n w t x y h k = box-small rs (bloated n w t x y) (omega arith) (omega arith)
 far-small Least rs n w t x y h k = box-small rs (shrunk w t x y) (omega arith) (omega arith)
 
--- what 64 bits ask of a level's numbers
-pub record LevelSmall (v : Level) : Type 0 where
-  pub named : v .named .area ≤ 1099511627776
-  pub limit : v .limit ≤ 1099511627776
-
-placed-small : (rs : List Rect) (n w : ℕ) (b : Spot) → n ≤ 1048576 → w ≤ n → Placed rs n w b → b .area ≤ 1099511627776
+placed-small : (rs : List Rect) (n w : ℕ) (b : Spot) → n ≤ sideRoom → w ≤ n → Placed rs n w b → b .area ≤ areaRoom
 placed-small rs n w b h k p = rw (p .area) (box-small rs (window w (b .x) (b .y)) (omega arith) (omega arith))
 
-pub level-small : (s : Sense) (rs : List Rect) (n w t : ℕ) (b : Spot) → n ≤ 1048576 → w ≤ n → 1 ≤ t → AtStart rs n w t b → LevelSmall (levelOf s rs n w t b)
+pub level-small : (s : Sense) (rs : List Rect) (n w t : ℕ) (b : Spot) → n ≤ sideRoom → w ≤ n → 1 ≤ t → AtStart rs n w t b → LevelSmall (levelOf s rs n w t b)
 unfolding levelOf
 level-small s rs n w t b h k p a =
     record {
       named = placed-small rs n w (levelOf s rs n w t b .named) h k (start-placed rs n w t (levelOf s rs n w t b .named) p (level-at-start s rs n w t b a));
-      limit = rows-are s (farArea s rs n w t) t (startsOn n w t) (startsOn n w t) (spotAt (farArea s rs n w t) 0 0) (λ (c : Spot). c .area ≤ 1099511627776)
+      limit = rows-are s (farArea s rs n w t) t (startsOn n w t) (startsOn n w t) (spotAt (farArea s rs n w t) 0 0) (λ (c : Spot). c .area ≤ areaRoom)
           (far-small s rs n w t 0 0 h k) (λ i j p q. far-small s rs n w t (i * t) (j * t) h k);
     }
 
-pub quick-run-small : (s : Sense) (rs : List Rect) (n w e v : ℕ) → 1 ≤ w → w ≤ n → n ≤ 1048576 → LevelSmall (quickRun s rs n w e v .last)
+pub quick-run-small : (s : Sense) (rs : List Rect) (n w e v : ℕ) → 1 ≤ w → w ≤ n → n ≤ sideRoom → LevelSmall (quickRun s rs n w e v .last)
 quick-run-small s rs n w e v p q h =
     quick-run-ends LevelSmall s rs n w e v (λ j l. each-level s rs n w p LevelSmall j l (λ b r a. level-small s rs n w (levelStep w j) b h q r a))
     (λ j l. record {

@@ -45,40 +45,40 @@ set-says l p v h = go (le-or-lt (length l) p)
     go (inl k) = absurd (omega (arith, h, List·getD-eq-default {A = ℕ} (set l p v) 0 {n = p} (omega (arith, length-set l p v))))
     go (inr k) = sym (getD-set-same l p v 0 k) ∙ h
 
-row-flags : (s : Sense) (best : ℕ) (far : ℕ → ℕ → ℕ) (t y at n : ℕ) (l : List ℕ) (i : ℕ) → i < n →
-    getD (flagsInRow s best far t y at n l) (at + i) 0 ≡ 1 → NoBetter s (far (i * t) y) best
+row-flags : (s : Sense) (best : ℕ) (far : ℕ → ℕ) (t at k : ℕ) (l : List ℕ) (i : ℕ) → i < k → getD (flagsInRow s best far t at k l) (at + i) 0 ≡ 1 →
+    NoBetter s (far (i * t)) best
 unfolding flagsInRow
-row-flags s best far t y at zero l i h e = absurd (omega arith)
-row-flags s best far t y at (suc n) l i h e = go (ℕ-discrete i n) (row-flags s best far t y at n l i)
+row-flags s best far t at zero l i h e = absurd (omega arith)
+row-flags s best far t at (suc k) l i h e = go (ℕ-discrete i k) (row-flags s best far t at k l i)
   where
     rest : List ℕ
-    rest = flagsInRow s best far t y at n l
+    rest = flagsInRow s best far t at k l
 
-    go : Dec (i ≡ n) → (i < n → getD rest (at + i) 0 ≡ 1 → NoBetter s (far (i * t) y) best) → NoBetter s (far (i * t) y) best
-    go (yes k) r = rw k (flag-says s best (far (n * t) y) (set-says rest (at + n) (flagOf s best (far (n * t) y)) (rw k at e)))
-    go (no k) r = r (omega arith) (sym (getD-set-other rest (at + n) (at + i) (flagOf s best (far (n * t) y)) 0 (omega arith)) ∙ e)
+    go : Dec (i ≡ k) → (i < k → getD rest (at + i) 0 ≡ 1 → NoBetter s (far (i * t)) best) → NoBetter s (far (i * t)) best
+    go (yes q) r = rw q (flag-says s best (far (k * t)) (set-says rest (at + k) (flagOf s best (far (k * t))) (rw q at e)))
+    go (no q) r = r (omega arith) (sym (getD-set-other rest (at + k) (at + i) (flagOf s best (far (k * t))) 0 (omega arith)) ∙ e)
 
 -- flags before the row stay
-row-leaves : (s : Sense) (best : ℕ) (far : ℕ → ℕ → ℕ) (t y at n : ℕ) (l : List ℕ) (p : ℕ) → p < at → getD (flagsInRow s best far t y at n l) p 0 ≡ getD l p 0
+row-leaves : (s : Sense) (best : ℕ) (far : ℕ → ℕ) (t at k : ℕ) (l : List ℕ) (p : ℕ) → p < at → getD (flagsInRow s best far t at k l) p 0 ≡ getD l p 0
 unfolding flagsInRow
-row-leaves s best far t y at zero l p h = refl
-row-leaves s best far t y at (suc n) l p h =
-    getD-set-other (flagsInRow s best far t y at n l) (at + n) p (flagOf s best (far (n * t) y)) 0 (omega arith) ∙ row-leaves s best far t y at n l p h
+row-leaves s best far t at zero l p h = refl
+row-leaves s best far t at (suc k) l p h =
+    getD-set-other (flagsInRow s best far t at k l) (at + k) p (flagOf s best (far (k * t))) 0 (omega arith) ∙ row-leaves s best far t at k l p h
 
-rows-flag : (s : Sense) (best : ℕ) (far : ℕ → ℕ → ℕ) (t n m : ℕ) (l : List ℕ) (i j : ℕ) → i < n → j < m →
-    getD (flagsInRows s best far t n m l) (j * n + i) 0 ≡ 1 → NoBetter s (far (i * t) (j * t)) best
+rows-flag : (s : Sense) (best : ℕ) (far : ℕ → ℕ → ℕ) (t k m : ℕ) (l : List ℕ) (i j : ℕ) → i < k → j < m →
+    getD (flagsInRows s best far t k m l) (j * k + i) 0 ≡ 1 → NoBetter s (far (i * t) (j * t)) best
 unfolding flagsInRows
-rows-flag s best far t n zero l i j h k e = absurd (omega arith)
-rows-flag s best far t n (suc m) l i j h k e = go (ℕ-discrete j m) (rows-flag s best far t n m l i j h)
+rows-flag s best far t k zero l i j h d e = absurd (omega arith)
+rows-flag s best far t k (suc m) l i j h d e = go (ℕ-discrete j m) (rows-flag s best far t k m l i j h)
   where
     rest : List ℕ
-    rest = flagsInRows s best far t n m l
+    rest = flagsInRows s best far t k m l
 
-    go : Dec (j ≡ m) → (j < m → getD rest (j * n + i) 0 ≡ 1 → NoBetter s (far (i * t) (j * t)) best) → NoBetter s (far (i * t) (j * t)) best
-    go (yes q) r = rw q (row-flags s best far t (m * t) (m * n) n rest i h (rw q at e))
+    go : Dec (j ≡ m) → (j < m → getD rest (j * k + i) 0 ≡ 1 → NoBetter s (far (i * t) (j * t)) best) → NoBetter s (far (i * t) (j * t)) best
+    go (yes q) r = rw q (row-flags s best (λ x. far x (m * t)) t (m * k) k rest i h (rw q at e))
     go (no q) r =
         r (omega arith)
-        (sym (row-leaves s best far t (m * t) (m * n) n rest (j * n + i) (omega (arith, mul-le-mul-right {m = suc j} {n = m} n (omega arith)))) ∙ e)
+        (sym (row-leaves s best (λ x. far x (m * t)) t (m * k) k rest (j * k + i) (omega (arith, mul-le-mul-right {m = suc j} {n = m} k (omega arith)))) ∙ e)
 
 -- ---- it is harmless to pass over what the flags say
 

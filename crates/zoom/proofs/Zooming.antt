@@ -22,16 +22,18 @@ use Rattle.zoom.specs.declared.Quick.{Quick}
 use Rattle.zoom.specs.declared.Next.{Next}
 use Rattle.zoom.specs.declared.Next.the-variants.{Over, Deeper}
 use Rattle.zoom.specs.declared.Grid.{Grid}
-use Rattle.zoom.specs.declared.Far.{Far}
 use Rattle.zoom.specs.Run.{lastLevel, levelStep, startsOn, farArea, levelOf, levelAt, isMet, exactEnd, runFrom, quickRun}
+use Rattle.zoom.specs.Limits.{flagsRoom, sideRoom, startsRoom, LevelSmall}
+use Rattle.zoom.specs.Grid.{Sized, AtStart}
 use Rattle.zoom.specs.Passing.{NoBetter, Harmless, flagsInRows}
-use Rattle.zoom.specs.Grid.{Sized, AtStart, farInRows, nextAfter}
+use Rattle.zoom.specs.Weighing.{farInRows}
+use Rattle.zoom.specs.Next.{nextAfter}
 use Rattle.zoom.proofs.Folds.{no-better-trans, rows-stay}
 use Rattle.zoom.proofs.Steps.{step-next, step-halves, step-positive}
 use Rattle.zoom.proofs.Starts.{start-stays}
-use Rattle.zoom.proofs.Bracket.{first-start, level-searches, level-at-start, floor-of, LevelSmall, level-small}
+use Rattle.zoom.proofs.Bracket.{first-start, level-searches, level-at-start, floor-of, level-small}
 use Rattle.zoom.proofs.PassOver.{far-from-best, harmless-first, harmless-next}
-use Rattle.zoom.proofs.Passes.{RowsSoFar, far-rows-bound, far-rows-kept}
+use Rattle.zoom.proofs.Passes.{RowsSoFar, rows-named, far-rows-limit, far-rows-kept}
 
 -- ---- a level by its two passes
 
@@ -48,45 +50,49 @@ pub record LevelDone (s : Sense) (rs : List Rect) (n w t : ℕ) (before : Spot) 
   pub answer : this ≡ levelOf s rs n w t before
   pub flags : new′ ≡ flagsInRows s (this .named .area) (farArea s rs n w t) t (startsOn n w t) (startsOn n w t) new
 
-pub level-done : (s : Sense) (rs : List Rect) (g : Grid) (before best : Spot) (far : Far) (new new′ : List ℕ) → Sized g → AtStart rs (g .n) (g .w) (g .t) before →
+pub level-done : (s : Sense) (rs : List Rect) (g : Grid) (before best : Spot) (this : Level) (new new′ : List ℕ) → Sized g → AtStart rs (g .n) (g .w) (g .t) before →
     best ≡ bestInRows s (windowArea rs (g .w)) (g .t) (g .starts) (g .starts) before →
-    RowsSoFar s (best .area) (farArea s rs (g .n) (g .w) (g .t)) (g .t) (g .starts) (g .starts) (record { bound = best; kept = 0 }) far new new′ →
-    LevelDone s rs (g .n) (g .w) (g .t) before (record { named = best; limit = far .bound .area; kept = far .kept }) new new′
+    RowsSoFar s (farArea s rs (g .n) (g .w) (g .t)) (g .t) (g .starts) (g .starts) (record { named = best; limit = best .area; kept = 0 }) this new new′ →
+    LevelDone s rs (g .n) (g .w) (g .t) before this new new′
 unfolding levelOf
-level-done s rs g before best far new new′ z a e r =
+level-done s rs g before best this new new′ z a e r =
     record {
-      answer = λ i. record { named = named-is i; limit = far-is i; kept = kept-is i };
-      flags = subst (λ (k : ℕ). new′ ≡ flagsInRows s (best .area) (farArea s rs (g .n) (g .w) (g .t)) (g .t) k k new) (z .count) (r .flags);
+      answer = λ i. record { named = (stays ∙ best-is) i; limit = limit-is i; kept = kept-is i };
+      flags = r .flags ∙ ap₂ (λ (b : Spot) (k : ℕ). flagsInRows s (b .area) far (g .t) k k new) (sym stays) (z .count);
     }
   where
+    far : ℕ → ℕ → ℕ
+    far = farArea s rs (g .n) (g .w) (g .t)
+
     level : Level
     level = levelOf s rs (g .n) (g .w) (g .t) before
 
-    named-is : best ≡ level .named
-    named-is =
+    first : Spot → Level
+    first b = record { named = b; limit = b .area; kept = 0 }
+
+    stays : this .named ≡ best
+    stays = rows-named s far (g .t) (g .starts) (g .starts) (first best) this new new′ r
+
+    best-is : best ≡ level .named
+    best-is =
         subst (λ (k : ℕ). best ≡ bestInRows s (windowArea rs (g .w)) (g .t) k k before) (z .count) e ∙ sym (level-searches s rs (g .n) (g .w) (g .t) before)
 
-    counted : far ≡ farInRows s (level .named .area) (farArea s rs (g .n) (g .w) (g .t)) (g .t) (startsOn (g .n) (g .w) (g .t)) (startsOn (g .n) (g .w) (g .t))
-        (record { bound = level .named; kept = 0 })
-    counted =
-        r .search
-        ∙ ap₂ (λ (b : Spot) (k : ℕ). farInRows s (b .area) (farArea s rs (g .n) (g .w) (g .t)) (g .t) k k (record { bound = b; kept = 0 })) named-is (z .count)
+    counted : this ≡ farInRows s far (g .t) (startsOn (g .n) (g .w) (g .t)) (startsOn (g .n) (g .w) (g .t)) (first (level .named))
+    counted = r .search ∙ ap₂ (λ (b : Spot) (k : ℕ). farInRows s far (g .t) k k (first b)) best-is (z .count)
 
-    far-is : far .bound .area ≡ level .limit
-    far-is =
-        ap (λ (b : Far). b .bound .area) counted
-        ∙ ap (λ (b : Spot). b .area) (far-rows-bound s (level .named .area) (farArea s rs (g .n) (g .w) (g .t)) (g .t) _ _ (record { bound = level .named; kept = 0 }))
+    limit-is : this .limit ≡ level .limit
+    limit-is =
+        ap (λ (v : Level). v .limit) counted ∙ far-rows-limit s far (g .t) _ _ (first (level .named)) (level .named) refl
         ∙ far-from-best s rs (g .n) (g .w) (g .t) before (z .some-step) (z .inside) a
 
     kept-against : ℕ → ℕ
     kept-against f =
         let k = startsOn (g .n) (g .w) (g .t) in
-        sum k (λ j. sum k (λ i. one-if (better s (farArea s rs (g .n) (g .w) (g .t) (i * g .t) (j * g .t)) f)))
+        sum k (λ j. sum k (λ i. one-if (better s (far (i * g .t) (j * g .t)) f)))
 
-    kept-is : far .kept ≡ level .kept
+    kept-is : this .kept ≡ level .kept
     kept-is =
-        ap (λ (b : Far). b .kept) counted
-        ∙ far-rows-kept s (level .named .area) (farArea s rs (g .n) (g .w) (g .t)) (g .t) _ _ (record { bound = level .named; kept = 0 }) ∙ zero-add _
+        ap (λ (v : Level). v .kept) counted ∙ far-rows-kept s far (g .t) _ _ (first (level .named)) ∙ zero-add _
         ∙ ap kept-against (floor-of s rs (g .n) (g .w) (g .t) before a)
 
 -- ---- the run, level by level
@@ -185,12 +191,12 @@ pub record RunSoFar (s : Sense) (rs : List Rect) (n w e v z : ℕ) (old new : Li
   pub follows : levelOf s rs n w (levelStep w j) before ≡ levelAt s rs n w j
   pub start : AtStart rs n w t before
   pub spare : Harmless s rs n w t old stride (before .area)
-  pub few : stride ≤ 1048577
-  pub old-size : length old ≡ 262144
-  pub new-size : length new ≡ 262144
+  pub few : stride ≤ startsRoom
+  pub old-size : length old ≡ flagsRoom
+  pub new-size : length new ≡ flagsRoom
 
 pub run-begins : (s : Sense) (rs : List Rect) (n w e v z : ℕ) (before : Spot) → z ≡ lastLevel w → before ≡ spotAt (windowArea rs w) 0 0 →
-    RunSoFar s rs n w e v z (replicate 262144 0) (replicate 262144 0) before 0 w 0
+    RunSoFar s rs n w e v z (replicate flagsRoom 0) (replicate flagsRoom 0) before 0 w 0
 unfolding quickRun levelAt
 run-begins s rs n w e v z before h k =
     record {
@@ -200,10 +206,10 @@ run-begins s rs n w e v z before h k =
       step = sym (div-one w);
       follows = ap (λ (b : Spot). levelOf s rs n w (levelStep w 0) b) k;
       start = subst (λ (b : Spot). AtStart rs n w w b) (sym k) (subst (λ (t : ℕ). AtStart rs n w t (spotAt (windowArea rs w) 0 0)) (div-one w) (first-start rs n w));
-      spare = harmless-first s rs n w w 0 262144 (before .area);
+      spare = harmless-first s rs n w w 0 flagsRoom (before .area);
       few = omega arith;
-      old-size = length-replicate {A = ℕ} 262144 0;
-      new-size = length-replicate {A = ℕ} 262144 0;
+      old-size = length-replicate {A = ℕ} flagsRoom 0;
+      new-size = length-replicate {A = ℕ} flagsRoom 0;
     }
   where
     left : z - 0 ≡ lastLevel w
@@ -234,7 +240,7 @@ module _ (s : Sense) (rs : List Rect) (n w e v z : ℕ) (old new : List ℕ) (be
       after ≡ nextAfter s e v z j this m → after ≡ Over q → q ≡ quickRun s rs n w e v
   run-answers this m after q h k l o = sym (run-over s rs n w e v z (z - j) j q left-is (run-next this m after h k l ∙ o)) ∙ so-far .whole
 
-  pub run-goes-on : (this : Level) (m : Spot) (after : Next) (old′ new′ : List ℕ) (stride′ : ℕ) → n ≤ 1048576 →
+  pub run-goes-on : (this : Level) (m : Spot) (after : Next) (old′ new′ : List ℕ) (stride′ : ℕ) → n ≤ sideRoom →
       LevelDone s rs n w t before this new new′ → m ≡ extreme s rs n w → after ≡ nextAfter s e v z j this m → after ≡ Deeper → length new′ ≡ length new →
       old′ ≡ take (length new′) new′ ++ drop (length new′) old → stride′ ≡ startsOn n w t →
       RunSoFar s rs n w e v z old′ new′ (this .named) stride′ (t / 2) (j + 1)
@@ -280,7 +286,7 @@ module _ (s : Sense) (rs : List Rect) (n w e v z : ℕ) (old new : List ℕ) (be
           (sym even) (harmless-next s rs n w (t / 2) (this .named .area) new positive))
 
   -- the numbers of a level fit the tests after it
-  pub run-small : (this : Level) → w ≤ n → n ≤ 1048576 → this ≡ levelOf s rs n w t before → LevelSmall this
+  pub run-small : (this : Level) → w ≤ n → n ≤ sideRoom → this ≡ levelOf s rs n w t before → LevelSmall this
   run-small this q small h = subst LevelSmall (sym h) (level-small s rs n w t before small q (run-step .0) (so-far .start))
 
   pub run-deep : j ≤ 4

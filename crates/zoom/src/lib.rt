@@ -6,14 +6,26 @@ mod parts;
 mod spans;
 mod standard;
 
-ghost use Prim.Native.Nat.{_+_, _*_, _≤_};
 ghost use mathlib.Core.Path.{_≡_};
 ghost use Rattle.geometry.specs.declared.Sense.the-variants.{Greatest};
-ghost use Rattle.geometry.specs.Layout.{rectsOf, Drawn};
-ghost use Rattle.extremes.specs.Exact.{extreme};
+ghost use Rattle.geometry.specs.Layout.{rectsOf};
 ghost use Rattle.zoom.specs.Run.{quickRun, density};
+ghost use Rattle.zoom.specs.Limits.{Runnable, Measurable};
 use geometry::Sense;
 use geometry::Spot;
+
+// Room for a row's strip: it has at most as many numbers as the table of
+// rectangles that it is made from.
+const STRIP_ROOM: usize = 4096;
+
+// What is asked of a quick run: the layout's side N, the window's side W, the
+// accuracy E and the levels allowed, V.
+pub struct Asked {
+    pub size: u64,
+    pub window: u64,
+    pub accuracy: u64,
+    pub levels: u64,
+}
 
 // How a quick run ended.
 pub enum End {
@@ -41,13 +53,17 @@ pub struct Quick {
     pub last: Level,
 }
 
-// A level's layout side n, window side w, step t between starts and number of
-// starts on an axis. The paper calls the step a tile side; the fill has others.
+// A level, as its two passes see it: the sense of the extreme, the layout's side
+// n, the window's side w, the step t between starts, the number of starts on an
+// axis, and how many flags a row of the level before has. The paper calls the
+// step a tile side; the fill has other tiles.
 struct Grid {
+    sense: Sense,
     n: u64,
     w: u64,
     t: u64,
     starts: u64,
+    stride: u64,
 }
 
 // What the front of a buffer holds of a row's strip: `count` numbers, which
@@ -55,13 +71,6 @@ struct Grid {
 struct Part {
     count: usize,
     until: u64,
-}
-
-// The search for the best far area of a level: what stands, and the starts
-// whose far area is better than the best window.
-struct Far {
-    bound: Spot,
-    kept: u64,
 }
 
 // What follows a level: the answer of a run that is over, or a deeper level.
@@ -72,18 +81,16 @@ enum Next {
 
 // The quick run for the greatest window. The exact run's window comes in, so
 // that the exact level does not search again.
-pub fn quick_run(rects: &[u64], n: u64, w: u64, e: u64, v: u64, m: Spot) -> Quick
-    requires { ⌜ Drawn (now rects) ⌝ }
-    requires { ⌜ (1 ≤ w) × (w ≤ n) × (n ≤ 1048576) × (e ≤ 1000) ⌝ }
-    requires { ⌜ m ≡ extreme Greatest (rectsOf (now rects)) n w ⌝ }
-    ensures { λ r. ⌜ r ≡ quickRun Greatest (rectsOf (now (rects .entry))) n w e v ⌝ }
+pub fn quick_run(rects: &[u64], asked: Asked, m: Spot) -> Quick
+    requires { ⌜ Runnable Greatest (now rects) asked m ⌝ }
+    ensures { λ r. ⌜ r ≡ quickRun Greatest (rectsOf (now (rects .entry))) (asked .size) (asked .window) (asked .accuracy) (asked .levels) ⌝ }
 {
-    levels::run(Sense::Greatest, rects, n, w, e, v, m)
+    levels::run(Sense::Greatest, rects, asked, m)
 }
 
 // The density of a bracket, in ten-thousandths.
 pub fn density(w: u64, f: u64, c: u64) -> u64
-    requires { ⌜ (1 ≤ w) × (w ≤ 1048576) × (f ≤ 1099511627776) × (c ≤ 1099511627776) ⌝ }
+    requires { ⌜ Measurable w f c ⌝ }
     ensures { λ r. ⌜ r ≡ density w f c ⌝ }
 {
     10000 * (f + c) / (2 * w * w)
