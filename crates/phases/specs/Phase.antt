@@ -15,7 +15,7 @@ verdictNumber v = getD (verdictNumbers v) 0 0
 abbrev pub phaseNumber : ℕ → Answer → ℕ
 phaseNumber zero a = 0
 phaseNumber (suc zero) a = a .exact .greatest .area
-phaseNumber (suc (suc zero)) a = a .quick .last .far
+phaseNumber (suc (suc zero)) a = a .quick .last .limit
 phaseNumber (suc (suc (suc zero))) a = verdictNumber (a .verdict)
 phaseNumber (suc (suc (suc (suc n)))) a = 0
 

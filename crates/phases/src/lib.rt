@@ -4,6 +4,7 @@ use fill::Plan;
 use fill::Verdict;
 use jobfile::Head;
 use jobfile::Job;
+use zoom::Asked;
 ghost use mathlib.Core.Path.{_≡_};
 ghost use Rattle.jobfile.specs.Limits.{unitLimits};
 ghost use Rattle.jobfile.specs.File.{outcomeOf};
@@ -23,14 +24,20 @@ fn greatest_area(head: Head, rects: &[u64], amounts: &[u64]) -> u64
 // The exact and the quick run: the ceiling.
 fn ceiling(head: Head, rects: &[u64], amounts: &[u64]) -> u64
     requires { ⌜ Ready head (now rects) (now amounts) ⌝ }
-    ensures { λ r. ⌜ r ≡ answerOf (standingOf head (now (rects .entry)) (now (amounts .entry))) .quick .last .far ⌝ }
+    ensures { λ r. ⌜ r ≡ answerOf (standingOf head (now (rects .entry)) (now (amounts .entry))) .quick .last .limit ⌝ }
 {
     let size = head.size;
     let window = head.window;
     let exact = extremes::exact_run(rects, size, window);
     let greatest = exact.greatest;
-    let quick = zoom::quick_run(rects, size, window, head.accuracy, head.levels, greatest);
-    quick.last.far
+    let asked = Asked {
+        size,
+        window,
+        accuracy: head.accuracy,
+        levels: head.levels,
+    };
+    let quick = zoom::quick_run(rects, asked, greatest);
+    quick.last.limit
 }
 
 fn number_of(v: Verdict) -> u64

@@ -106,12 +106,12 @@ quick-kept st r =
     let h = st .head in
     let q = quickRun Greatest (st .shapes) (h .size) (h .window) (h .accuracy) (h .levels) in
     let p = quick-run-promises Greatest (st .shapes) (h .size) (h .window) (h .accuracy) (h .levels) (r .some-window) (r .window-fits) in
-    let w = p .brackets .window in
+    let w = p .brackets .named in
     record {
       floor = record { position = record { across = w .across; down = w .down }; area = w .area };
       floor-below = p .brackets .low;
       ceiling-above = p .brackets .high;
-      met = λ e. midpoint (h .accuracy) (extreme Greatest (st .shapes) (h .size) (h .window) .area) (q .last .window .area) (q .last .far) (p .accurate (number-met (q .end) e));
+      met = λ e. midpoint (h .accuracy) (extreme Greatest (st .shapes) (h .size) (h .window) .area) (q .last .named .area) (q .last .limit) (p .accurate (number-met (q .end) e));
       levels-done = levels-at-most Greatest (st .shapes) (h .size) (h .window) (h .accuracy) (h .levels) (r .some-level);
     }
 

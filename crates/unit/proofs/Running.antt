@@ -11,6 +11,7 @@ use Rattle.extremes.specs.declared.Extremes.{Extremes}
 use Rattle.extremes.specs.Exact.{exactRun}
 use Rattle.zoom.specs.declared.Quick.{Quick}
 use Rattle.zoom.specs.Run.{quickRun, density}
+use Rattle.zoom.specs.Limits.{areaRoom, Measurable}
 use Rattle.zoom.proofs.Bracket.{quick-run-small}
 use Rattle.fill.specs.declared.Plan.{Plan}
 use Rattle.fill.specs.declared.Verdict.{Verdict}
@@ -32,17 +33,18 @@ module _ (h : Head) (rects amounts : List ℕ) where
 
   -- what forming the density asks
   pub bracket-small : Ready h rects amounts → (q : Quick) → q ≡ quick →
-      (1 ≤ h .window) × (h .window ≤ 1048576) × (q .last .window .area ≤ 1099511627776) × (q .last .far ≤ 1099511627776)
+      Measurable (h .window) (q .last .named .area) (q .last .limit)
   bracket-small r q e =
-      let s = quick-run-small Greatest (rectsOf rects) (h .size) (h .window) (h .accuracy) (h .levels) (r .some-window) (r .window-fits) (r .small) in (
-        r .some-window,
-        omega (arith, r .window-fits, r .small),
-        subst⁻¹ (λ (p : Quick). p .last .window .area ≤ 1099511627776) e (s .window),
-        subst⁻¹ (λ (p : Quick). p .last .far ≤ 1099511627776) e (s .far),
-      )
+      let s = quick-run-small Greatest (rectsOf rects) (h .size) (h .window) (h .accuracy) (h .levels) (r .some-window) (r .window-fits) (r .small) in
+      record {
+        some-window = r .some-window;
+        window-small = omega (arith, r .window-fits, r .small);
+        floor-small = subst⁻¹ (λ (p : Quick). p .last .named .area ≤ areaRoom) e (s .named);
+        ceiling-small = subst⁻¹ (λ (p : Quick). p .last .limit ≤ areaRoom) e (s .limit);
+      }
 
   pub answer-is : (x : Extremes) (q : Quick) (d : ℕ) (v : Verdict) (tiles side : ℕ) → x ≡ exactRun (rectsOf rects) (h .size) (h .window) → q ≡ quick →
-      d ≡ density (h .window) (q .last .window .area) (q .last .far) →
+      d ≡ density (h .window) (q .last .named .area) (q .last .limit) →
       v ≡ verdictOf (rectsOf rects) amounts (planAt h tiles side) → tiles ≡ tilesAcross h → side ≡ tileSide h →
       _≡_ {A = Answer} (record { exact = x; quick = q; density = d; verdict = v }) (answerOf (standingOf h rects amounts))
   unfolding answerOf

@@ -36,7 +36,7 @@ answerOf st =
     record {
       exact = exactRun (st .shapes) (h .size) (h .window);
       quick = q;
-      density = density (h .window) (q .last .window .area) (q .last .far);
+      density = density (h .window) (q .last .named .area) (q .last .limit);
       verdict = verdictOf (st .shapes) (st .amounts) (planOf h);
     }
 
@@ -50,12 +50,12 @@ zoomHead Met = bytes "(zoom met"
 zoomHead Stopped = bytes "(zoom stopped"
 zoomHead Exact = bytes "(zoom exact"
 
-abbrev pub levelPart : (levels : ℕ) → Level → List ℕ
-levelPart levels v =
-    spell (bytes " (levels #) (floor # # #) (ceiling #) (kept #))\n") (levels ∷ spotNumbers (v .window) (v .far ∷ v .kept ∷ []))
+abbrev pub levelPart : (done : ℕ) → Level → List ℕ
+levelPart done v =
+    spell (bytes " (levels #) (floor # # #) (ceiling #) (kept #))\n") (done ∷ spotNumbers (v .named) (v .limit ∷ v .kept ∷ []))
 
 abbrev pub zoomLine : Quick → List ℕ
-zoomLine q = zoomHead (q .end) ++ levelPart (q .levels) (q .last)
+zoomLine q = zoomHead (q .end) ++ levelPart (q .done) (q .last)
 
 abbrev pub densityLine : ℕ → List ℕ
 densityLine r = spell (bytes "(density #)\n") (r ∷ [])

@@ -62,11 +62,11 @@ pub record ExactPromise (st : Standing) (e : Extremes) : Type 0 where
 -- the quick run, beside the exact run's M: its floor F is the area of the window it names, F ≤ M ≤ C, "met" for accuracy E bounds the
 -- midpoint, 1000 × |F + C − 2M| ≤ 2 × E × M, and no more levels were done than are allowed
 pub record QuickPromise (st : Standing) (q : Quick) (m : ℕ) : Type 0 where
-  pub floor : RealWindow st (q .last .window)
-  pub floor-below : q .last .window .area ≤ m
-  pub ceiling-above : m ≤ q .last .far
-  pub met : endNumber (q .end) ≡ 0 → 1000 * distance (q .last .window .area + q .last .far) (2 * m) ≤ 2 * st .head .accuracy * m
-  pub levels-done : q .levels ≤ st .head .levels
+  pub floor : RealWindow st (q .last .named)
+  pub floor-below : q .last .named .area ≤ m
+  pub ceiling-above : m ≤ q .last .limit
+  pub met : endNumber (q .end) ≡ 0 → 1000 * distance (q .last .named .area + q .last .limit) (2 * m) ≤ 2 * st .head .accuracy * m
+  pub levels-done : q .done ≤ st .head .levels
 
 -- the fill, whichever eligible unit squares it takes: after "safe" every position keeps both bounds, on the tile grid or off it; after
 -- "broken" the named window is a position and breaks the bound named; and there is at least one placement

@@ -3,6 +3,7 @@ use extremes::Extremes;
 use fill::Plan;
 use fill::Verdict;
 use jobfile::Head;
+use zoom::Asked;
 use zoom::Quick;
 ghost use mathlib.Core.Path.{_≡_};
 ghost use Rattle.unit.specs.Answering.{answerOf};
@@ -28,8 +29,14 @@ pub(crate) fn run(head: Head, rects: &[u64], amounts: &[u64]) -> Answer
     let tiles = jobfile::tiles_across(head);
     let exact = extremes::exact_run(rects, size, window);
     let greatest = exact.greatest;
-    let quick = zoom::quick_run(rects, size, window, head.accuracy, head.levels, greatest);
-    let density = zoom::density(window, quick.last.window.area, quick.last.far);
+    let asked = Asked {
+        size,
+        window,
+        accuracy: head.accuracy,
+        levels: head.levels,
+    };
+    let quick = zoom::quick_run(rects, asked, greatest);
+    let density = zoom::density(window, quick.last.named.area, quick.last.limit);
     let plan = Plan {
         across: tiles,
         cut: head.cut,

@@ -57,16 +57,16 @@ fn write_end(end: End, out: &mut [u8], at: usize) -> usize
     }
 }
 
-fn write_level(levels: u64, last: Level, out: &mut [u8], at: usize) -> usize
+fn write_level(done: u64, last: Level, out: &mut [u8], at: usize) -> usize
     requires { ⌜ at + levelRoom ≤ length (now out) ⌝ }
-    ensures { λ r. ⌜ WrittenIn levelRoom (now (out .entry)) at (levelPart levels last) (now (out .exit)) r ⌝ }
+    ensures { λ r. ⌜ WrittenIn levelRoom (now (out .entry)) at (levelPart done last) (now (out .exit)) r ⌝ }
 {
     let values = [
-        levels,
-        last.window.area,
-        last.window.x,
-        last.window.y,
-        last.far,
+        done,
+        last.named.area,
+        last.named.x,
+        last.named.y,
+        last.limit,
         last.kept,
     ];
     write_line(
@@ -84,7 +84,7 @@ fn write_quick(q: Quick, out: &mut [u8], at: usize) -> usize
     let end = q.end;
     let last = q.last;
     let next = write_end(end, out, at);
-    write_level(q.levels, last, out, next)
+    write_level(q.done, last, out, next)
 }
 
 fn write_density(density: u64, out: &mut [u8], at: usize) -> usize

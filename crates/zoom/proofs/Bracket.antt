@@ -13,7 +13,7 @@ use Rattle.geometry.specs.declared.Rect.{Rect}
 use Rattle.geometry.specs.declared.Spot.{Spot}
 use Rattle.geometry.specs.declared.Sense.{Sense}
 use Rattle.geometry.specs.declared.Sense.the-variants.{Greatest, Least}
-use Rattle.geometry.specs.Extreme.{better, spotAt, replaced, bestInRows}
+use Rattle.geometry.specs.Extreme.{better, spotAt, replaced, bestInRows, NoBetter}
 use Rattle.geometry.specs.Count.{sum, one-if}
 use Rattle.geometry.specs.Layout.{covered, coveredArea, windowBox}
 use Rattle.geometry.proofs.Counting.{le-or-lt, sum-cong, sum-zero, box-const}
@@ -26,11 +26,11 @@ use Rattle.extremes.proofs.Promises.{extreme-over-all}
 use Rattle.zoom.specs.declared.End.the-variants.{Met}
 use Rattle.zoom.specs.declared.Level.{Level}
 use Rattle.zoom.specs.declared.Quick.{Quick}
-use Rattle.zoom.specs.Run.{lastLevel, levelTile, startsOn, bloated, shrunk, farArea, bestStart, levelOf, levelAt, lowEnd, highEnd, isMet, afterLevel, exactEnd, runFrom, quickRun}
-use Rattle.zoom.specs.Passing.{NoBetter}
+use Rattle.zoom.specs.Run.{lastLevel, levelStep, startsOn, bloated, shrunk, farArea, bestStart, levelOf, levelAt, lowEnd, highEnd, isMet, afterLevel, exactEnd, runFrom, quickRun}
+use Rattle.zoom.specs.Limits.{sideRoom, areaRoom, LevelSmall}
 use Rattle.zoom.specs.Grid.{AtStart}
 use Rattle.zoom.proofs.Folds.{no-better-trans, replaced-stays, replaced-area, rows-are, rows-see, rows-replace}
-use Rattle.zoom.proofs.Tiles.{tile-halves, tile-positive}
+use Rattle.zoom.proofs.Steps.{step-halves, step-positive}
 use Rattle.zoom.proofs.Starts.{Below, at-start, start-stays, start-fits, start-below, half-start, window-within, far-halves}
 
 -- ---- the exact run
@@ -56,18 +56,18 @@ placed-no-better s rs n w b p = rw (p .area) (extreme-best s rs n w .none-better
 
 -- the code seeks the level's window from the one before on, and so names the one that the definition names
 pub level-searches : (s : Sense) (rs : List Rect) (n w t : ℕ) (b : Spot) →
-    levelOf s rs n w t b .window ≡ bestInRows s (windowArea rs w) t (startsOn n w t) (startsOn n w t) b
+    levelOf s rs n w t b .named ≡ bestInRows s (windowArea rs w) t (startsOn n w t) (startsOn n w t) b
 unfolding levelOf
 level-searches s rs n w t b = sym (rows-replace s (windowArea rs w) t (startsOn n w t) (startsOn n w t) b (omega arith) (omega arith))
 
-pub level-at-start : (s : Sense) (rs : List Rect) (n w t : ℕ) (b : Spot) → AtStart rs n w t b → AtStart rs n w t (levelOf s rs n w t b .window)
+pub level-at-start : (s : Sense) (rs : List Rect) (n w t : ℕ) (b : Spot) → AtStart rs n w t b → AtStart rs n w t (levelOf s rs n w t b .named)
 level-at-start s rs n w t b a =
     rw (level-searches s rs n w t b)
     (rows-are s (windowArea rs w) t (startsOn n w t) (startsOn n w t) b (AtStart rs n w t) a (λ i j h k. at-start rs n w t i j h k))
 
 -- F, the area of the named window, is the level's best standard area where the window before is at a start of the level
 pub floor-of : (s : Sense) (rs : List Rect) (n w t : ℕ) (b : Spot) → AtStart rs n w t b →
-    levelOf s rs n w t b .window .area ≡ bestStart s (windowArea rs w) t (startsOn n w t) .area
+    levelOf s rs n w t b .named .area ≡ bestStart s (windowArea rs w) t (startsOn n w t) .area
 unfolding levelOf
 floor-of s rs n w t b a = replaced-area s b best (subst (λ (c : Spot). NoBetter s (c .area) (best .area)) (sym (a .is)) seen)
   where
@@ -79,51 +79,51 @@ floor-of s rs n w t b a = replaced-area s b best (subst (λ (c : Spot). NoBetter
 
 -- C is no worse than any far area, and than any position
 pub level-sees : (s : Sense) (rs : List Rect) (n w t : ℕ) (b : Spot) (i j : ℕ) → i < startsOn n w t → j < startsOn n w t →
-    NoBetter s (farArea s rs n w t (i * t) (j * t)) (levelOf s rs n w t b .far)
+    NoBetter s (farArea s rs n w t (i * t) (j * t)) (levelOf s rs n w t b .limit)
 unfolding levelOf
 level-sees s rs n w t b i j h k = rows-see s (farArea s rs n w t) t (startsOn n w t) (startsOn n w t) (spotAt (farArea s rs n w t) 0 0) i j h k
 
 pub level-bounds : (s : Sense) (rs : List Rect) (n w t : ℕ) (b : Spot) (x y : ℕ) → 1 ≤ t → w ≤ n → x ≤ n - w → y ≤ n - w →
-    NoBetter s (windowArea rs w x y) (levelOf s rs n w t b .far)
+    NoBetter s (windowArea rs w x y) (levelOf s rs n w t b .limit)
 level-bounds s rs n w t b x y p q h k =
     let across : Below n w t x = start-below n w t x p h in
     let down : Below n w t y = start-below n w t y p k in
-    no-better-trans s (windowArea rs w x y) (farArea s rs n w t (across .start * t) (down .start * t)) (levelOf s rs n w t b .far)
+    no-better-trans s (windowArea rs w x y) (farArea s rs n w t (across .start * t) (down .start * t)) (levelOf s rs n w t b .limit)
     (window-within s rs n w t x y (across .start * t) (down .start * t) (omega arith) (omega arith) (across .before) (across .close) (down .before) (down .close))
     (level-sees s rs n w t b (across .start) (down .start) (across .counts) (down .counts))
 
--- the best far area is no better where the tile side is half
+-- the best far area is no better where the step is half
 far-narrows : (s : Sense) (rs : List Rect) (n w t : ℕ) (b c : Spot) → 1 ≤ t →
-    NoBetter s (levelOf s rs n w t b .far) (levelOf s rs n w (2 * t) c .far)
+    NoBetter s (levelOf s rs n w t b .limit) (levelOf s rs n w (2 * t) c .limit)
 unfolding levelOf
 far-narrows s rs n w t b c p =
     rows-are s (farArea s rs n w t) t (startsOn n w t) (startsOn n w t) (spotAt (farArea s rs n w t) 0 0)
-    (λ (a : Spot). NoBetter s (a .area) (levelOf s rs n w (2 * t) c .far)) (rw (zero-mul t) at (each 0 0 (omega arith) (omega arith))) each
+    (λ (a : Spot). NoBetter s (a .area) (levelOf s rs n w (2 * t) c .limit)) (rw (zero-mul t) at (each 0 0 (omega arith) (omega arith))) each
   where
-    each : (i j : ℕ) → i < startsOn n w t → j < startsOn n w t → NoBetter s (farArea s rs n w t (i * t) (j * t)) (levelOf s rs n w (2 * t) c .far)
+    each : (i j : ℕ) → i < startsOn n w t → j < startsOn n w t → NoBetter s (farArea s rs n w t (i * t) (j * t)) (levelOf s rs n w (2 * t) c .limit)
     each i j h k =
         no-better-trans s (farArea s rs n w t (i * t) (j * t)) (farArea s rs n w (2 * t) (i / 2 * (2 * t)) (j / 2 * (2 * t)))
-        (levelOf s rs n w (2 * t) c .far) (far-halves s rs n w t i j)
+        (levelOf s rs n w (2 * t) c .limit) (far-halves s rs n w t i j)
         (level-sees s rs n w (2 * t) c (i / 2) (j / 2) (half-start n w t i p h) (half-start n w t j p k))
 
 -- ---- a level's bracket
 
 -- low ≤ m ≤ high, and the named window
 pub record Brackets (s : Sense) (rs : List Rect) (n w : ℕ) (v : Level) : Type 0 where
-  pub window : Placed rs n w (v .window)
+  pub named : Placed rs n w (v .named)
   pub low : lowEnd s v ≤ extreme s rs n w .area
   pub high : extreme s rs n w .area ≤ highEnd s v
 
-brackets : (s : Sense) (rs : List Rect) (n w : ℕ) (v : Level) → Placed rs n w (v .window) → NoBetter s (extreme s rs n w .area) (v .far) → Brackets s rs n w v
+brackets : (s : Sense) (rs : List Rect) (n w : ℕ) (v : Level) → Placed rs n w (v .named) → NoBetter s (extreme s rs n w .area) (v .limit) → Brackets s rs n w v
 brackets Greatest rs n w v p h =
-    record { window = p; low = ltb-false _ _ (placed-no-better Greatest rs n w (v .window) p); high = ltb-false _ _ h }
-brackets Least rs n w v p h = record { window = p; low = ltb-false _ _ h; high = ltb-false _ _ (placed-no-better Least rs n w (v .window) p) }
+    record { named = p; low = ltb-false _ _ (placed-no-better Greatest rs n w (v .named) p); high = ltb-false _ _ h }
+brackets Least rs n w v p h = record { named = p; low = ltb-false _ _ h; high = ltb-false _ _ (placed-no-better Least rs n w (v .named) p) }
 
 brackets-of : (s : Sense) (rs : List Rect) (n w t : ℕ) (b : Spot) → 1 ≤ t → w ≤ n → AtStart rs n w t b → Brackets s rs n w (levelOf s rs n w t b)
 brackets-of s rs n w t b p q a =
-    brackets s rs n w (levelOf s rs n w t b) (start-placed rs n w t (levelOf s rs n w t b .window) p (level-at-start s rs n w t b a)) extreme-bounded
+    brackets s rs n w (levelOf s rs n w t b) (start-placed rs n w t (levelOf s rs n w t b .named) p (level-at-start s rs n w t b a)) extreme-bounded
   where
-    extreme-bounded : NoBetter s (extreme s rs n w .area) (levelOf s rs n w t b .far)
+    extreme-bounded : NoBetter s (extreme s rs n w .area) (levelOf s rs n w t b .limit)
     extreme-bounded = let m = extreme-placed s rs n w in rw (m .area) (level-bounds s rs n w t b (extreme s rs n w .x) (extreme s rs n w .y) p q (m .across) (m .down))
 
 exact-brackets : (s : Sense) (rs : List Rect) (n w j : ℕ) (b : Spot) → Placed rs n w b → Brackets s rs n w (exactEnd s j b (extreme s rs n w) .last)
@@ -150,88 +150,88 @@ accurate e m low high h k l = record { above = omega (arith, part); below = omeg
 -- ---- the levels of a run
 
 -- the window that stands is a start of the first level, and of the next level if of this one
-pub first-start : (rs : List Rect) (n w : ℕ) → AtStart rs n w (levelTile w 0) (spotAt (windowArea rs w) 0 0)
+pub first-start : (rs : List Rect) (n w : ℕ) → AtStart rs n w (levelStep w 0) (spotAt (windowArea rs w) 0 0)
 first-start rs n w =
-    subst (λ (x : ℕ). AtStart rs n w (levelTile w 0) (spotAt (windowArea rs w) x x)) (zero-mul (levelTile w 0))
-    (at-start rs n w (levelTile w 0) 0 0 (omega arith) (omega arith))
+    subst (λ (x : ℕ). AtStart rs n w (levelStep w 0) (spotAt (windowArea rs w) x x)) (zero-mul (levelStep w 0))
+    (at-start rs n w (levelStep w 0) 0 0 (omega arith) (omega arith))
 
-next-start : (rs : List Rect) (n w j : ℕ) (b : Spot) → 1 ≤ w → j < lastLevel w → AtStart rs n w (levelTile w j) b → AtStart rs n w (levelTile w (suc j)) b
+next-start : (rs : List Rect) (n w j : ℕ) (b : Spot) → 1 ≤ w → j < lastLevel w → AtStart rs n w (levelStep w j) b → AtStart rs n w (levelStep w (suc j)) b
 next-start rs n w j b p h a =
-    start-stays rs n w (levelTile w (suc j)) b (tile-positive w (suc j) p h) (subst (λ (t : ℕ). AtStart rs n w t b) (tile-halves w j h) a)
+    start-stays rs n w (levelStep w (suc j)) b (step-positive w (suc j) p h) (subst (λ (t : ℕ). AtStart rs n w t b) (step-halves w j h) a)
 
 -- a level's bracket lies in that of another
 pub record Narrows (s : Sense) (v next : Level) : Type 0 where
   pub low : lowEnd s v ≤ lowEnd s next
   pub high : highEnd s next ≤ highEnd s v
 
-narrows : (s : Sense) (v next : Level) → NoBetter s (v .window .area) (next .window .area) → NoBetter s (next .far) (v .far) → Narrows s v next
+narrows : (s : Sense) (v next : Level) → NoBetter s (v .named .area) (next .named .area) → NoBetter s (next .limit) (v .limit) → Narrows s v next
 narrows Greatest v next h k = record { low = ltb-false _ _ h; high = ltb-false _ _ k }
 narrows Least v next h k = record { low = ltb-false _ _ k; high = ltb-false _ _ h }
 
-window-stays : (s : Sense) (rs : List Rect) (n w j : ℕ) → NoBetter s (levelAt s rs n w j .window .area) (levelAt s rs n w (suc j) .window .area)
+named-stays : (s : Sense) (rs : List Rect) (n w j : ℕ) → NoBetter s (levelAt s rs n w j .named .area) (levelAt s rs n w (suc j) .named .area)
 unfolding levelAt levelOf
-window-stays s rs n w j = replaced-stays s (levelAt s rs n w j .window) _
+named-stays s rs n w j = replaced-stays s (levelAt s rs n w j .named) _
 
-same-floor : (s : Sense) (rs : List Rect) (n w i j : ℕ) → i ≡ j → NoBetter s (levelAt s rs n w i .window .area) (levelAt s rs n w j .window .area)
-same-floor s rs n w i j e = rw e (better-self s (levelAt s rs n w j .window .area))
+same-floor : (s : Sense) (rs : List Rect) (n w i j : ℕ) → i ≡ j → NoBetter s (levelAt s rs n w i .named .area) (levelAt s rs n w j .named .area)
+same-floor s rs n w i j e = rw e (better-self s (levelAt s rs n w j .named .area))
 
 -- F is no better in an earlier level
-pub floor-stays : (s : Sense) (rs : List Rect) (n w i j : ℕ) → i ≤ j → NoBetter s (levelAt s rs n w i .window .area) (levelAt s rs n w j .window .area)
+pub floor-stays : (s : Sense) (rs : List Rect) (n w i j : ℕ) → i ≤ j → NoBetter s (levelAt s rs n w i .named .area) (levelAt s rs n w j .named .area)
 floor-stays s rs n w i zero h = same-floor s rs n w i 0 (omega arith)
 floor-stays s rs n w i (suc j) h = go (le-or-lt (suc j) i) (floor-stays s rs n w i j)
   where
     F : ℕ → ℕ
-    F j = levelAt s rs n w j .window .area
+    F j = levelAt s rs n w j .named .area
 
     go : (suc j ≤ i) ⊎ (i < suc j) → (i ≤ j → NoBetter s (F i) (F j)) → NoBetter s (F i) (F (suc j))
     go (inl k) r = same-floor s rs n w i (suc j) (omega arith)
-    go (inr k) r = no-better-trans s (F i) (F j) (F (suc j)) (r (omega arith)) (window-stays s rs n w j)
+    go (inr k) r = no-better-trans s (F i) (F j) (F (suc j)) (r (omega arith)) (named-stays s rs n w j)
 
 module _ (s : Sense) (rs : List Rect) (n w : ℕ) (p : 1 ≤ w) where
-  named-start : (j : ℕ) → j ≤ lastLevel w → AtStart rs n w (levelTile w j) (levelAt s rs n w j .window)
+  named-start : (j : ℕ) → j ≤ lastLevel w → AtStart rs n w (levelStep w j) (levelAt s rs n w j .named)
   unfolding levelAt
-  named-start zero h = level-at-start s rs n w (levelTile w 0) _ (first-start rs n w)
-  named-start (suc j) h = level-at-start s rs n w (levelTile w (suc j)) _ (next-start rs n w j _ p h (named-start j (omega arith)))
+  named-start zero h = level-at-start s rs n w (levelStep w 0) _ (first-start rs n w)
+  named-start (suc j) h = level-at-start s rs n w (levelStep w (suc j)) _ (next-start rs n w j _ p h (named-start j (omega arith)))
 
   -- what holds of a level that follows a window at one of its starts holds of level j
   each-level : (P : Level → Type 0) (j : ℕ) → j ≤ lastLevel w →
-      ((b : Spot) → 1 ≤ levelTile w j → AtStart rs n w (levelTile w j) b → P (levelOf s rs n w (levelTile w j) b)) → P (levelAt s rs n w j)
+      ((b : Spot) → 1 ≤ levelStep w j → AtStart rs n w (levelStep w j) b → P (levelOf s rs n w (levelStep w j) b)) → P (levelAt s rs n w j)
   unfolding levelAt
-  each-level P zero h f = f (spotAt (windowArea rs w) 0 0) (tile-positive w 0 p h) (first-start rs n w)
-  each-level P (suc j) h f = f (levelAt s rs n w j .window) (tile-positive w (suc j) p h) (next-start rs n w j _ p h (named-start j (omega arith)))
+  each-level P zero h f = f (spotAt (windowArea rs w) 0 0) (step-positive w 0 p h) (first-start rs n w)
+  each-level P (suc j) h f = f (levelAt s rs n w j .named) (step-positive w (suc j) p h) (next-start rs n w j _ p h (named-start j (omega arith)))
 
   -- F, the area of the named window, is the best standard area at level j
   pub floor-is-best : (j : ℕ) → j ≤ lastLevel w →
-      let t = levelTile w j in
-      levelAt s rs n w j .window .area ≡ bestStart s (windowArea rs w) t (startsOn n w t) .area
+      let t = levelStep w j in
+      levelAt s rs n w j .named .area ≡ bestStart s (windowArea rs w) t (startsOn n w t) .area
   floor-is-best j h =
-      let t = levelTile w j in
-      each-level (λ (v : Level). v .window .area ≡ bestStart s (windowArea rs w) t (startsOn n w t) .area) j h (λ b q a. floor-of s rs n w t b a)
+      let t = levelStep w j in
+      each-level (λ (v : Level). v .named .area ≡ bestStart s (windowArea rs w) t (startsOn n w t) .area) j h (λ b q a. floor-of s rs n w t b a)
 
   -- F ≤ M ≤ C
   pub level-brackets : (j : ℕ) → j ≤ lastLevel w → w ≤ n → Brackets s rs n w (levelAt s rs n w j)
-  level-brackets j h l = each-level (Brackets s rs n w) j h (λ b q a. brackets-of s rs n w (levelTile w j) b q l a)
+  level-brackets j h l = each-level (Brackets s rs n w) j h (λ b q a. brackets-of s rs n w (levelStep w j) b q l a)
 
   -- in the exact level that follows it, F = M
   pub exact-floor : (j : ℕ) → j ≤ lastLevel w → w ≤ n →
-      exactEnd s j (levelAt s rs n w j .window) (extreme s rs n w) .last .window .area ≡ extreme s rs n w .area
+      exactEnd s j (levelAt s rs n w j .named) (extreme s rs n w) .last .named .area ≡ extreme s rs n w .area
   exact-floor j h l =
-      replaced-area s (levelAt s rs n w j .window) (extreme s rs n w)
-      (placed-no-better s rs n w (levelAt s rs n w j .window) (level-brackets j h l .window))
+      replaced-area s (levelAt s rs n w j .named) (extreme s rs n w)
+      (placed-no-better s rs n w (levelAt s rs n w j .named) (level-brackets j h l .named))
 
   -- from level j to the next F never falls and C never rises
   pub level-narrows : (j : ℕ) → j < lastLevel w → Narrows s (levelAt s rs n w j) (levelAt s rs n w (suc j))
   level-narrows j h = narrows s (levelAt s rs n w j) (levelAt s rs n w (suc j)) keeps lowers
     where
-      keeps : NoBetter s (levelAt s rs n w j .window .area) (levelAt s rs n w (suc j) .window .area)
-      keeps = window-stays s rs n w j
+      keeps : NoBetter s (levelAt s rs n w j .named .area) (levelAt s rs n w (suc j) .named .area)
+      keeps = named-stays s rs n w j
 
-      lowers : NoBetter s (levelAt s rs n w (suc j) .far) (levelAt s rs n w j .far)
+      lowers : NoBetter s (levelAt s rs n w (suc j) .limit) (levelAt s rs n w j .limit)
       lowers =
-          each-level (λ (v : Level). NoBetter s (v .far) (levelAt s rs n w j .far)) (suc j) h
-          (λ b q _. each-level (λ (v : Level). NoBetter s (levelOf s rs n w (levelTile w (suc j)) b .far) (v .far)) j (omega arith)
-          (λ c _ _. subst (λ (t : ℕ). NoBetter s (levelOf s rs n w (levelTile w (suc j)) b .far) (levelOf s rs n w t c .far)) (sym (tile-halves w j h))
-          (far-narrows s rs n w (levelTile w (suc j)) b c q)))
+          each-level (λ (v : Level). NoBetter s (v .limit) (levelAt s rs n w j .limit)) (suc j) h
+          (λ b q _. each-level (λ (v : Level). NoBetter s (levelOf s rs n w (levelStep w (suc j)) b .limit) (v .limit)) j (omega arith)
+          (λ c _ _. subst (λ (t : ℕ). NoBetter s (levelOf s rs n w (levelStep w (suc j)) b .limit) (levelOf s rs n w t c .limit)) (sym (step-halves w j h))
+          (far-narrows s rs n w (levelStep w (suc j)) b c q)))
 
 -- ---- the run
 
@@ -249,11 +249,11 @@ after-level P s e v j this next b p = go (isMet s e this) refl (leb v (suc j)) r
     go false h false k = rw (h, k, afterLevel) p
 
 module _ (P : Level → Type 0) (s : Sense) (rs : List Rect) (n w e v : ℕ) (each : (j : ℕ) → j ≤ lastLevel w → P (levelAt s rs n w j))
-    (exact : (j : ℕ) → j ≤ lastLevel w → P (exactEnd s j (levelAt s rs n w j .window) (extreme s rs n w) .last)) where
+    (exact : (j : ℕ) → j ≤ lastLevel w → P (exactEnd s j (levelAt s rs n w j .named) (extreme s rs n w) .last)) where
   run-ends : (left j : ℕ) → j + left ≡ lastLevel w → Ended P s e (runFrom s rs n w e v left j)
   unfolding runFrom
   run-ends zero j h =
-      after-level P s e v j (levelAt s rs n w j) (exactEnd s j (levelAt s rs n w j .window) (extreme s rs n w)) (each j (omega arith))
+      after-level P s e v j (levelAt s rs n w j) (exactEnd s j (levelAt s rs n w j .named) (extreme s rs n w)) (each j (omega arith))
       (record { holds = exact j (omega arith); met = λ e. absurd (let z : _≡_ {A = ℕ} 0 1 = cc in omega arith) })
   run-ends (suc left) j h =
       after-level P s e v j (levelAt s rs n w j) (runFrom s rs n w e v left (suc j)) (each j (omega arith)) (run-ends left (suc j) (omega arith))
@@ -271,27 +271,27 @@ pub quick-run-promises : (s : Sense) (rs : List Rect) (n w e v : ℕ) → 1 ≤ 
 quick-run-promises s rs n w e v p q =
     let ended =
     quick-run-ends (Brackets s rs n w) s rs n w e v (λ j h. level-brackets s rs n w p j h q)
-    (λ j h. exact-brackets s rs n w j (levelAt s rs n w j .window) (level-brackets s rs n w p j h q .window)) in
+    (λ j h. exact-brackets s rs n w j (levelAt s rs n w j .named) (level-brackets s rs n w p j h q .named)) in
     record {
       brackets = ended .holds;
       accurate = λ m. accurate e _ _ _ (ended .holds .low) (ended .holds .high) (leb-true _ _ (ended .met m));
     }
 
 -- a run does at most v levels, the exact search counted as one
-levels-after : (s : Sense) (e v j : ℕ) (this : Level) (next : Quick) → j < v → (suc j < v → next .levels ≤ v) → afterLevel s e v j this next .levels ≤ v
+levels-after : (s : Sense) (e v j : ℕ) (this : Level) (next : Quick) → j < v → (suc j < v → next .done ≤ v) → afterLevel s e v j this next .done ≤ v
 levels-after s e v j this next h f = go (isMet s e this) refl (leb v (suc j)) refl
   where
-    go : (m : Bool) → isMet s e this ≡ m → (d : Bool) → leb v (suc j) ≡ d → afterLevel s e v j this next .levels ≤ v
+    go : (m : Bool) → isMet s e this ≡ m → (d : Bool) → leb v (suc j) ≡ d → afterLevel s e v j this next .done ≤ v
     go true p d q = rw (p, afterLevel) h
     go false p true q = rw (p, q, afterLevel) h
     go false p false q = rw (p, q, afterLevel) (f (leb-false v (suc j) q))
 
-levels-from : (s : Sense) (rs : List Rect) (n w e v left j : ℕ) → j < v → runFrom s rs n w e v left j .levels ≤ v
+levels-from : (s : Sense) (rs : List Rect) (n w e v left j : ℕ) → j < v → runFrom s rs n w e v left j .done ≤ v
 unfolding runFrom
-levels-from s rs n w e v zero j h = levels-after s e v j (levelAt s rs n w j) (exactEnd s j (levelAt s rs n w j .window) (extreme s rs n w)) h (λ k. k)
+levels-from s rs n w e v zero j h = levels-after s e v j (levelAt s rs n w j) (exactEnd s j (levelAt s rs n w j .named) (extreme s rs n w)) h (λ k. k)
 levels-from s rs n w e v (suc left) j h = levels-after s e v j (levelAt s rs n w j) (runFrom s rs n w e v left (suc j)) h (λ k. levels-from s rs n w e v left (suc j) k)
 
-pub levels-at-most : (s : Sense) (rs : List Rect) (n w e v : ℕ) → 1 ≤ v → quickRun s rs n w e v .levels ≤ v
+pub levels-at-most : (s : Sense) (rs : List Rect) (n w e v : ℕ) → 1 ≤ v → quickRun s rs n w e v .done ≤ v
 unfolding quickRun
 levels-at-most s rs n w e v h = levels-from s rs n w e v (lastLevel w) 0 h
 
@@ -313,11 +313,11 @@ best-nothing s f t k z = rows-are s f t k k (spotAt f 0 0) (λ (a : Spot). a .ar
 
 -- F = C = 0 at (0, 0), and no start is kept
 abbrev pub emptyLevel : Level
-emptyLevel = record { window = record { area = 0; x = 0; y = 0 }; far = 0; kept = 0 }
+emptyLevel = record { named = record { area = 0; x = 0; y = 0 }; limit = 0; kept = 0 }
 
 level-nothing : (s : Sense) (n w t : ℕ) → levelOf s [] n w t (spotAt (windowArea [] w) 0 0) ≡ emptyLevel
 unfolding levelOf
-level-nothing s n w t = λ i. record { window = named i; far = best-nothing s (farArea s [] n w t) t k (far-nothing s n w t) i; kept = none i }
+level-nothing s n w t = λ i. record { named = named i; limit = best-nothing s (farArea s [] n w t) t k (far-nothing s n w t) i; kept = none i }
   where
     k : ℕ
     k = startsOn n w t
@@ -344,20 +344,20 @@ level-nothing s n w t = λ i. record { window = named i; far = best-nothing s (f
     none = sum-cong k _ _ (λ j h. sum-cong k _ _ (λ i l. unkept i j) ∙ sum-zero k) ∙ sum-zero k
 
 met-at-once : (s : Sense) (rs : List Rect) (n w e v left : ℕ) → isMet s e (levelAt s rs n w 0) ≡ true →
-    runFrom s rs n w e v left 0 ≡ record { end = Met; levels = 1; last = levelAt s rs n w 0 }
+    runFrom s rs n w e v left 0 ≡ record { end = Met; done = 1; last = levelAt s rs n w 0 }
 unfolding runFrom
 met-at-once s rs n w e v zero h = rw (h, afterLevel) refl
 met-at-once s rs n w e v (suc left) h = rw (h, afterLevel) refl
 
 -- it is met after one level
-pub empty-layout : (s : Sense) (n w e v : ℕ) → quickRun s [] n w e v ≡ record { end = Met; levels = 1; last = emptyLevel }
+pub empty-layout : (s : Sense) (n w e v : ℕ) → quickRun s [] n w e v ≡ record { end = Met; done = 1; last = emptyLevel }
 unfolding quickRun levelAt
 empty-layout s n w e v =
-    subst (λ (u : Level). quickRun s [] n w e v ≡ record { end = Met; levels = 1; last = u }) level
+    subst (λ (u : Level). quickRun s [] n w e v ≡ record { end = Met; done = 1; last = u }) level
     (met-at-once s [] n w e v (lastLevel w) (ap (λ (u : Level). isMet s e u) level ∙ met s))
   where
     level : levelAt s [] n w 0 ≡ emptyLevel
-    level = level-nothing s n w (levelTile w 0)
+    level = level-nothing s n w (levelStep w 0)
 
     met : (s : Sense) → isMet s e emptyLevel ≡ true
     met Greatest = le-leb (1000 * 0) ((1000 + 2 * e) * 0) (omega arith)
@@ -365,35 +365,30 @@ empty-layout s n w e v =
 
 -- ---- bounds
 
-box-small : (rs : List Rect) (b : Rect) → b .x2 - b .x1 ≤ 1048576 → b .y2 - b .y1 ≤ 1048576 → coveredArea rs b ≤ 1099511627776
+box-small : (rs : List Rect) (b : Rect) → b .x2 - b .x1 ≤ sideRoom → b .y2 - b .y1 ≤ sideRoom → coveredArea rs b ≤ areaRoom
 box-small rs b h k = omega (arith, area-small rs b, small-product (b .x2 - b .x1) (b .y2 - b .y1) h k)
 
-far-small : (s : Sense) (rs : List Rect) (n w t x y : ℕ) → n ≤ 1048576 → w ≤ n → farArea s rs n w t x y ≤ 1099511627776
+far-small : (s : Sense) (rs : List Rect) (n w t x y : ℕ) → n ≤ sideRoom → w ≤ n → farArea s rs n w t x y ≤ areaRoom
 far-small Greatest rs n w t x y h k = box-small rs (bloated n w t x y) (omega arith) (omega arith)
 far-small Least rs n w t x y h k = box-small rs (shrunk w t x y) (omega arith) (omega arith)
 
--- what 64 bits ask of a level's numbers
-pub record LevelSmall (v : Level) : Type 0 where
-  pub window : v .window .area ≤ 1099511627776
-  pub far : v .far ≤ 1099511627776
-
-placed-small : (rs : List Rect) (n w : ℕ) (b : Spot) → n ≤ 1048576 → w ≤ n → Placed rs n w b → b .area ≤ 1099511627776
+placed-small : (rs : List Rect) (n w : ℕ) (b : Spot) → n ≤ sideRoom → w ≤ n → Placed rs n w b → b .area ≤ areaRoom
 placed-small rs n w b h k p = rw (p .area) (box-small rs (windowBox w (b .x) (b .y)) (omega arith) (omega arith))
 
-pub level-small : (s : Sense) (rs : List Rect) (n w t : ℕ) (b : Spot) → n ≤ 1048576 → w ≤ n → 1 ≤ t → AtStart rs n w t b → LevelSmall (levelOf s rs n w t b)
+pub level-small : (s : Sense) (rs : List Rect) (n w t : ℕ) (b : Spot) → n ≤ sideRoom → w ≤ n → 1 ≤ t → AtStart rs n w t b → LevelSmall (levelOf s rs n w t b)
 unfolding levelOf
 level-small s rs n w t b h k p a =
     record {
-      window = placed-small rs n w (levelOf s rs n w t b .window) h k (start-placed rs n w t (levelOf s rs n w t b .window) p (level-at-start s rs n w t b a));
-      far = rows-are s (farArea s rs n w t) t (startsOn n w t) (startsOn n w t) (spotAt (farArea s rs n w t) 0 0) (λ (c : Spot). c .area ≤ 1099511627776)
+      named = placed-small rs n w (levelOf s rs n w t b .named) h k (start-placed rs n w t (levelOf s rs n w t b .named) p (level-at-start s rs n w t b a));
+      limit = rows-are s (farArea s rs n w t) t (startsOn n w t) (startsOn n w t) (spotAt (farArea s rs n w t) 0 0) (λ (c : Spot). c .area ≤ areaRoom)
           (far-small s rs n w t 0 0 h k) (λ i j p q. far-small s rs n w t (i * t) (j * t) h k);
     }
 
-pub quick-run-small : (s : Sense) (rs : List Rect) (n w e v : ℕ) → 1 ≤ w → w ≤ n → n ≤ 1048576 → LevelSmall (quickRun s rs n w e v .last)
+pub quick-run-small : (s : Sense) (rs : List Rect) (n w e v : ℕ) → 1 ≤ w → w ≤ n → n ≤ sideRoom → LevelSmall (quickRun s rs n w e v .last)
 quick-run-small s rs n w e v p q h =
-    quick-run-ends LevelSmall s rs n w e v (λ j l. each-level s rs n w p LevelSmall j l (λ b r a. level-small s rs n w (levelTile w j) b h q r a))
+    quick-run-ends LevelSmall s rs n w e v (λ j l. each-level s rs n w p LevelSmall j l (λ b r a. level-small s rs n w (levelStep w j) b h q r a))
     (λ j l. record {
-      window = placed-small rs n w (replaced s (levelAt s rs n w j .window) (extreme s rs n w)) h q
-          (exact-brackets s rs n w j (levelAt s rs n w j .window) (level-brackets s rs n w p j l q .window) .window);
-      far = placed-small rs n w (extreme s rs n w) h q (extreme-placed s rs n w);
+      named = placed-small rs n w (replaced s (levelAt s rs n w j .named) (extreme s rs n w)) h q
+          (exact-brackets s rs n w j (levelAt s rs n w j .named) (level-brackets s rs n w p j l q .named) .named);
+      limit = placed-small rs n w (extreme s rs n w) h q (extreme-placed s rs n w);
     }) .holds

@@ -8,13 +8,35 @@ use borrow.Author.Tests.{ltb-false, le-ltb}
 use Rattle.geometry.specs.declared.Spot.{Spot}
 use Rattle.geometry.specs.declared.Sense.{Sense}
 use Rattle.geometry.specs.declared.Sense.the-variants.{Greatest, Least}
-use Rattle.geometry.specs.Extreme.{better, spotAt, replaced, bestInRow, bestInRows}
+use Rattle.geometry.specs.Extreme.{better, spotAt, replaced, bestInRow, bestInRows, NoBetter}
 use Rattle.geometry.proofs.Extremes.{better-self, better-not, better-neither, step-better, step-skip, BestAfter, Start, after-no-worse, after-none-better, best-after-unique, rows-best, rows-best-of-all}
-use Rattle.zoom.specs.Passing.{NoBetter}
+use Rattle.zoom.specs.Weighing.{betterArea}
 
 pub no-better-trans : (s : Sense) (a b c : ℕ) → NoBetter s a b → NoBetter s b c → NoBetter s a c
 no-better-trans Greatest a b c h k = le-ltb c a (omega (arith, ltb-false b a h, ltb-false c b k))
 no-better-trans Least a b c h k = le-ltb a c (omega (arith, ltb-false a b h, ltb-false b c k))
+
+-- ---- areas alone
+
+pub area-better : (s : Sense) (b c : Spot) → betterArea s (b .area) (c .area) ≡ replaced s b c .area
+area-better s b c = go (better s (c .area) (b .area)) refl
+  where
+    go : (t : Bool) → better s (c .area) (b .area) ≡ t → betterArea s (b .area) (c .area) ≡ replaced s b c .area
+    go true e = rw (e, betterArea, replaced)
+    go false e = rw (e, betterArea, replaced)
+
+pub area-taken : (s : Sense) (old new : ℕ) → better s new old ≡ true → betterArea s old new ≡ new
+area-taken s old new h = rw (h, betterArea)
+
+pub area-skip : (s : Sense) (old new : ℕ) → NoBetter s new old → betterArea s old new ≡ old
+area-skip s old new h = rw (h, betterArea)
+
+pub area-stays : (s : Sense) (old new : ℕ) → NoBetter s old (betterArea s old new)
+area-stays s old new = go (better s new old) refl
+  where
+    go : (t : Bool) → better s new old ≡ t → NoBetter s old (betterArea s old new)
+    go true e = rw (e, betterArea) (better-not s new old e)
+    go false e = rw (e, betterArea) (better-self s old)
 
 -- ---- a row
 

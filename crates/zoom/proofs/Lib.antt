@@ -1,10 +1,10 @@
 pub mod Folds
-pub mod Tiles
+pub mod Steps
 pub mod Starts
 pub mod Bracket
 pub mod PassOver
 pub mod Numbers
 pub mod Passes
-pub mod Holding
+pub mod Serving
 pub mod Rows
 pub mod Zooming

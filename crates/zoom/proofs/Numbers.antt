@@ -6,17 +6,18 @@ use Rattle.geometry.specs.declared.Sense.{Sense}
 use Rattle.geometry.specs.declared.Sense.the-variants.{Greatest, Least}
 use Rattle.zoom.specs.declared.Level.{Level}
 use Rattle.zoom.specs.Run.{lowEnd, highEnd}
+use Rattle.zoom.specs.Limits.{sideRoom, areaRoom, LevelSmall}
 
 pub record EndsSmall (s : Sense) (v : Level) : Type 0 where
-  pub low : lowEnd s v ≤ 1099511627776
-  pub high : highEnd s v ≤ 1099511627776
+  pub low : lowEnd s v ≤ areaRoom
+  pub high : highEnd s v ≤ areaRoom
 
-pub ends-small : (s : Sense) (v : Level) → v .window .area ≤ 1099511627776 → v .far ≤ 1099511627776 → EndsSmall s v
-ends-small Greatest v h k = record { low = h; high = k }
-ends-small Least v h k = record { low = k; high = h }
+pub ends-small : (s : Sense) (v : Level) → LevelSmall v → EndsSmall s v
+ends-small Greatest v z = record { low = z .named; high = z .limit }
+ends-small Least v z = record { low = z .limit; high = z .named }
 
-pub scaled-small : (e low : ℕ) → e ≤ 1000 → low ≤ 1099511627776 → (1000 + 2 * e) * low ≤ 3298534883328000
+pub scaled-small : (e low : ℕ) → e ≤ 1000 → low ≤ areaRoom → (1000 + 2 * e) * low ≤ 3000 * areaRoom
 scaled-small e low h k = mul-le-mul {n₁ = 1000 + 2 * e} {n₂ = 3000} (omega arith) k
 
-pub area-of-window : (w : ℕ) → 1 ≤ w → w ≤ 1048576 → (1 ≤ 2 * w * w) × (2 * w * w ≤ 2199023255552)
-area-of-window w h k = (omega (arith, mul-le-mul {n₁ = 1} {m₁ = 1} {n₂ = w} {m₂ = w} h h), omega (arith, mul-le-mul {n₁ = w} {m₁ = w} {n₂ = 1048576} {m₂ = 1048576} k k))
+pub area-of-window : (w : ℕ) → 1 ≤ w → w ≤ sideRoom → (1 ≤ 2 * w * w) × (2 * w * w ≤ 2 * areaRoom)
+area-of-window w h k = (omega (arith, mul-le-mul {n₁ = 1} {m₁ = 1} {n₂ = w} {m₂ = w} h h), omega (arith, mul-le-mul {n₁ = w} {m₁ = w} {n₂ = sideRoom} {m₂ = sideRoom} k k))

@@ -17,12 +17,12 @@ use Rattle.geometry.specs.declared.Sense.{Sense}
 use Rattle.geometry.specs.declared.Sense.the-variants.{Greatest}
 use Rattle.geometry.specs.Count.{one-if}
 use Rattle.geometry.specs.Layout.{covered, coveredArea, windowBox}
-use Rattle.geometry.specs.Extreme.{better, spotAt, replaced, bestInRows}
+use Rattle.geometry.specs.Extreme.{better, spotAt, replaced, bestInRows, NoBetter}
 use Rattle.geometry.proofs.Counting.{le-or-lt, box-within}
 use Rattle.geometry.proofs.Extremes.{step-skip}
 use Rattle.extremes.specs.Exact.{windowArea}
-use Rattle.zoom.specs.Run.{levelTile, startsOn, bloated, farArea, levelOf, levelAt}
-use Rattle.zoom.specs.Passing.{NoBetter, flagOf, flagsInRow, flagsInRows, Harmless}
+use Rattle.zoom.specs.Run.{levelStep, startsOn, bloated, farArea, levelOf, levelAt}
+use Rattle.zoom.specs.Passing.{flagOf, flagsInRow, flagsInRows, Harmless}
 use Rattle.zoom.proofs.Folds.{no-better-trans, rows-see, rows-forget}
 use Rattle.zoom.specs.Grid.{AtStart}
 use Rattle.zoom.proofs.Starts.{start-fits, half-start, window-within, far-halves}
@@ -45,49 +45,49 @@ set-says l p v h = go (le-or-lt (length l) p)
     go (inl k) = absurd (omega (arith, h, List·getD-eq-default {A = ℕ} (set l p v) 0 {n = p} (omega (arith, length-set l p v))))
     go (inr k) = sym (getD-set-same l p v 0 k) ∙ h
 
-row-flags : (s : Sense) (best : ℕ) (far : ℕ → ℕ → ℕ) (t y at n : ℕ) (l : List ℕ) (i : ℕ) → i < n →
-    getD (flagsInRow s best far t y at n l) (at + i) 0 ≡ 1 → NoBetter s (far (i * t) y) best
+row-flags : (s : Sense) (best : ℕ) (far : ℕ → ℕ) (t at k : ℕ) (l : List ℕ) (i : ℕ) → i < k → getD (flagsInRow s best far t at k l) (at + i) 0 ≡ 1 →
+    NoBetter s (far (i * t)) best
 unfolding flagsInRow
-row-flags s best far t y at zero l i h e = absurd (omega arith)
-row-flags s best far t y at (suc n) l i h e = go (ℕ-discrete i n) (row-flags s best far t y at n l i)
+row-flags s best far t at zero l i h e = absurd (omega arith)
+row-flags s best far t at (suc k) l i h e = go (ℕ-discrete i k) (row-flags s best far t at k l i)
   where
     rest : List ℕ
-    rest = flagsInRow s best far t y at n l
+    rest = flagsInRow s best far t at k l
 
-    go : Dec (i ≡ n) → (i < n → getD rest (at + i) 0 ≡ 1 → NoBetter s (far (i * t) y) best) → NoBetter s (far (i * t) y) best
-    go (yes k) r = rw k (flag-says s best (far (n * t) y) (set-says rest (at + n) (flagOf s best (far (n * t) y)) (rw k at e)))
-    go (no k) r = r (omega arith) (sym (getD-set-other rest (at + n) (at + i) (flagOf s best (far (n * t) y)) 0 (omega arith)) ∙ e)
+    go : Dec (i ≡ k) → (i < k → getD rest (at + i) 0 ≡ 1 → NoBetter s (far (i * t)) best) → NoBetter s (far (i * t)) best
+    go (yes q) r = rw q (flag-says s best (far (k * t)) (set-says rest (at + k) (flagOf s best (far (k * t))) (rw q at e)))
+    go (no q) r = r (omega arith) (sym (getD-set-other rest (at + k) (at + i) (flagOf s best (far (k * t))) 0 (omega arith)) ∙ e)
 
 -- flags before the row stay
-row-leaves : (s : Sense) (best : ℕ) (far : ℕ → ℕ → ℕ) (t y at n : ℕ) (l : List ℕ) (p : ℕ) → p < at → getD (flagsInRow s best far t y at n l) p 0 ≡ getD l p 0
+row-leaves : (s : Sense) (best : ℕ) (far : ℕ → ℕ) (t at k : ℕ) (l : List ℕ) (p : ℕ) → p < at → getD (flagsInRow s best far t at k l) p 0 ≡ getD l p 0
 unfolding flagsInRow
-row-leaves s best far t y at zero l p h = refl
-row-leaves s best far t y at (suc n) l p h =
-    getD-set-other (flagsInRow s best far t y at n l) (at + n) p (flagOf s best (far (n * t) y)) 0 (omega arith) ∙ row-leaves s best far t y at n l p h
+row-leaves s best far t at zero l p h = refl
+row-leaves s best far t at (suc k) l p h =
+    getD-set-other (flagsInRow s best far t at k l) (at + k) p (flagOf s best (far (k * t))) 0 (omega arith) ∙ row-leaves s best far t at k l p h
 
-rows-flag : (s : Sense) (best : ℕ) (far : ℕ → ℕ → ℕ) (t n m : ℕ) (l : List ℕ) (i j : ℕ) → i < n → j < m →
-    getD (flagsInRows s best far t n m l) (j * n + i) 0 ≡ 1 → NoBetter s (far (i * t) (j * t)) best
+rows-flag : (s : Sense) (best : ℕ) (far : ℕ → ℕ → ℕ) (t k m : ℕ) (l : List ℕ) (i j : ℕ) → i < k → j < m →
+    getD (flagsInRows s best far t k m l) (j * k + i) 0 ≡ 1 → NoBetter s (far (i * t) (j * t)) best
 unfolding flagsInRows
-rows-flag s best far t n zero l i j h k e = absurd (omega arith)
-rows-flag s best far t n (suc m) l i j h k e = go (ℕ-discrete j m) (rows-flag s best far t n m l i j h)
+rows-flag s best far t k zero l i j h d e = absurd (omega arith)
+rows-flag s best far t k (suc m) l i j h d e = go (ℕ-discrete j m) (rows-flag s best far t k m l i j h)
   where
     rest : List ℕ
-    rest = flagsInRows s best far t n m l
+    rest = flagsInRows s best far t k m l
 
-    go : Dec (j ≡ m) → (j < m → getD rest (j * n + i) 0 ≡ 1 → NoBetter s (far (i * t) (j * t)) best) → NoBetter s (far (i * t) (j * t)) best
-    go (yes q) r = rw q (row-flags s best far t (m * t) (m * n) n rest i h (rw q at e))
+    go : Dec (j ≡ m) → (j < m → getD rest (j * k + i) 0 ≡ 1 → NoBetter s (far (i * t) (j * t)) best) → NoBetter s (far (i * t) (j * t)) best
+    go (yes q) r = rw q (row-flags s best (λ x. far x (m * t)) t (m * k) k rest i h (rw q at e))
     go (no q) r =
         r (omega arith)
-        (sym (row-leaves s best far t (m * t) (m * n) n rest (j * n + i) (omega (arith, mul-le-mul-right {m = suc j} {n = m} n (omega arith)))) ∙ e)
+        (sym (row-leaves s best (λ x. far x (m * t)) t (m * k) k rest (j * k + i) (omega (arith, mul-le-mul-right {m = suc j} {n = m} k (omega arith)))) ∙ e)
 
 -- ---- it is harmless to pass over what the flags say
 
-pub harmless-first : (s : Sense) (rs : List Rect) (n w t side size best : ℕ) → Harmless s rs n w t (replicate size 0) side best
-harmless-first s rs n w t side size best j k i h e = absurd (go (le-or-lt size (j / 2 * side + i / 2)))
+pub harmless-first : (s : Sense) (rs : List Rect) (n w t stride size best : ℕ) → Harmless s rs n w t (replicate size 0) stride best
+harmless-first s rs n w t stride size best j k i h e = absurd (go (le-or-lt size (j / 2 * stride + i / 2)))
   where
-    go : (size ≤ j / 2 * side + i / 2) ⊎ (j / 2 * side + i / 2 < size) → ⊥
-    go (inl l) = omega (arith, e, List·getD-eq-default {A = ℕ} (replicate size 0) 0 {n = j / 2 * side + i / 2} (omega (arith, length-replicate {A = ℕ} size 0)))
-    go (inr l) = omega (arith, e, getD-replicate {A = ℕ} size (j / 2 * side + i / 2) 0 0 l)
+    go : (size ≤ j / 2 * stride + i / 2) ⊎ (j / 2 * stride + i / 2 < size) → ⊥
+    go (inl l) = omega (arith, e, List·getD-eq-default {A = ℕ} (replicate size 0) 0 {n = j / 2 * stride + i / 2} (omega (arith, length-replicate {A = ℕ} size 0)))
+    go (inr l) = omega (arith, e, getD-replicate {A = ℕ} size (j / 2 * stride + i / 2) 0 0 l)
 
 pub harmless-next : (s : Sense) (rs : List Rect) (n w t best : ℕ) (l : List ℕ) → 1 ≤ t →
     Harmless s rs n w t
@@ -111,7 +111,7 @@ standard-no-better s rs n w t i j best p q h k b =
 -- ---- the law of passing over, in boxes
 
 -- b lies inside c
-pub record Within (b c : Rect) : Type 0 where
+pub record Inside (b c : Rect) : Type 0 where
   pub left : c .x1 ≤ b .x1
   pub low : c .y1 ≤ b .y1
   pub right : b .x2 ≤ c .x2
@@ -126,40 +126,40 @@ pub record AddsNothing (rs : List Rect) (n w t x y f : ℕ) : Type 0 where
 
 -- a start (x, y) of level j may be passed over if its bloated window lies inside one of an earlier level i of area at most the F of that level
 pub passed-over : (rs : List Rect) (n w i j x y x′ y′ : ℕ) → i ≤ j → x + w ≤ n → y + w ≤ n →
-    Within (bloated n w (levelTile w j) x y) (bloated n w (levelTile w i) x′ y′) →
-    coveredArea rs (bloated n w (levelTile w i) x′ y′) ≤ levelAt Greatest rs n w i .window .area →
-    AddsNothing rs n w (levelTile w j) x y (levelAt Greatest rs n w j .window .area)
+    Inside (bloated n w (levelStep w j) x y) (bloated n w (levelStep w i) x′ y′) →
+    coveredArea rs (bloated n w (levelStep w i) x′ y′) ≤ levelAt Greatest rs n w i .named .area →
+    AddsNothing rs n w (levelStep w j) x y (levelAt Greatest rs n w j .named .area)
 passed-over rs n w i j x y x′ y′ h ex ey l s =
     record {
       small = small;
       floor = λ b k. step-skip Greatest b (spotAt (windowArea rs w) x y) (le-ltb (b .area) (windowArea rs w x y) (omega (arith, small, standard, k)));
       ceiling = λ b k. step-skip Greatest b (spotAt (farArea Greatest rs n w t) x y) (le-ltb (b .area) (coveredArea rs (bloated n w t x y)) (omega (arith, small, k)));
-      kept = ap one-if (le-ltb (levelAt Greatest rs n w j .window .area) (coveredArea rs (bloated n w t x y)) small);
+      kept = ap one-if (le-ltb (levelAt Greatest rs n w j .named .area) (coveredArea rs (bloated n w t x y)) small);
     }
   where
     t : ℕ
-    t = levelTile w j
+    t = levelStep w j
 
     area : ℕ → ℕ → ℕ
     area x y = one-if (covered rs x y)
 
-    grows : levelAt Greatest rs n w i .window .area ≤ levelAt Greatest rs n w j .window .area
+    grows : levelAt Greatest rs n w i .named .area ≤ levelAt Greatest rs n w j .named .area
     grows = ltb-false _ _ (floor-stays Greatest rs n w i j h)
 
-    small : coveredArea rs (bloated n w t x y) ≤ levelAt Greatest rs n w j .window .area
+    small : coveredArea rs (bloated n w t x y) ≤ levelAt Greatest rs n w j .named .area
     small =
-        le-trans (box-within (bloated n w t x y) (bloated n w (levelTile w i) x′ y′) area (l .left) (l .low) (l .right) (l .high)) (le-trans s grows)
+        le-trans (box-within (bloated n w t x y) (bloated n w (levelStep w i) x′ y′) area (l .left) (l .low) (l .right) (l .high)) (le-trans s grows)
 
     standard : windowArea rs w x y ≤ coveredArea rs (bloated n w t x y)
     standard = box-within (windowBox w x y) (bloated n w t x y) area (omega arith) (omega arith) (omega arith) (omega arith)
 
 -- C may be sought from F on: the best window lies in the far window of its own start
 pub far-from-best : (s : Sense) (rs : List Rect) (n w t : ℕ) (b : Spot) → 1 ≤ t → w ≤ n → AtStart rs n w t b →
-    bestInRows s (farArea s rs n w t) t (startsOn n w t) (startsOn n w t) (levelOf s rs n w t b .window) .area ≡ levelOf s rs n w t b .far
+    bestInRows s (farArea s rs n w t) t (startsOn n w t) (startsOn n w t) (levelOf s rs n w t b .named) .area ≡ levelOf s rs n w t b .limit
 unfolding levelOf
 far-from-best s rs n w t b p q a =
-    rows-forget s far t k k (levelOf s rs n w t b .window) (spotAt far 0 0) (seen (level-at-start s rs n w t b a))
-    (rw (zero-mul t) at (rows-see s far t k k (levelOf s rs n w t b .window) 0 0 (omega arith) (omega arith)))
+    rows-forget s far t k k (levelOf s rs n w t b .named) (spotAt far 0 0) (seen (level-at-start s rs n w t b a))
+    (rw (zero-mul t) at (rows-see s far t k k (levelOf s rs n w t b .named) 0 0 (omega arith) (omega arith)))
   where
     k : ℕ
     k = startsOn n w t

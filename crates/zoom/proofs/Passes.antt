@@ -11,36 +11,37 @@ use Rattle.geometry.specs.declared.Rect.{Rect}
 use Rattle.geometry.specs.declared.Spot.{Spot}
 use Rattle.geometry.specs.declared.Sense.{Sense}
 use Rattle.geometry.specs.Count.{sum, one-if}
-use Rattle.geometry.specs.Extreme.{better, spotAt, replaced, bestInRow, bestInRows}
+use Rattle.geometry.specs.Extreme.{better, spotAt, replaced, bestInRow, bestInRows, NoBetter}
 use Rattle.geometry.proofs.Counting.{sum-le, sum-const}
 use Rattle.geometry.proofs.Overlaps.{one-if-small}
-use Rattle.geometry.proofs.Extremes.{step-skip}
 use Rattle.zoom.specs.declared.Grid.{Grid}
-use Rattle.zoom.specs.declared.Far.{Far}
+use Rattle.zoom.specs.declared.Level.{Level}
 use Rattle.zoom.specs.Run.{farArea}
-use Rattle.zoom.specs.Passing.{NoBetter, HarmlessRow, flagOf, flagsInRow, flagsInRows}
-use Rattle.zoom.specs.Grid.{Sized, Spares, weighed, farInRow, farInRows}
-use Rattle.zoom.proofs.Folds.{no-better-trans, row-stays, rows-stay}
+use Rattle.zoom.specs.Limits.{startsRoom, levelRoom, keptRoom}
+use Rattle.zoom.specs.Grid.{Sized}
+use Rattle.zoom.specs.Passing.{flagAbove, Spares, HarmlessRow, flagOf, flagsInRow, flagsInRows}
+use Rattle.zoom.specs.Weighing.{betterArea, weighed, farInRow, farInRows, Weighable}
+use Rattle.zoom.proofs.Folds.{no-better-trans, area-better, area-skip, area-stays, row-stays, rows-stay}
 use Rattle.zoom.proofs.Starts.{start-fits}
 
 -- ---- bounds
 
-pub starts-small : (g : Grid) → Sized g → g .starts ≤ 1048577
+pub starts-small : (g : Grid) → Sized g → g .starts ≤ startsRoom
 starts-small g z = omega (arith, z .count, z .small, div-le-self (g .n - g .w) (g .t))
 
 pub start-inside : (g : Grid) (i : ℕ) → Sized g → i < g .starts → i * g .t + g .w ≤ g .n
-start-inside g i z h = omega (arith, start-fits (g .n) (g .w) (g .t) i (z .tile) (rw (z .count) at h), z .inside)
+start-inside g i z h = omega (arith, start-fits (g .n) (g .w) (g .t) i (z .some-step) (rw (z .count) at h), z .inside)
 
 -- the places of the flags of a row, in the level before and in this one
-pub row-above : (g : Grid) (j side : ℕ) → Sized g → j < g .starts → side ≤ 1048577 → j / 2 * side ≤ 1099513724929
-row-above g j side z h k = mul-le-mul {n₂ = 1048577} (omega (arith, starts-small g z)) k
+pub row-above : (g : Grid) (j : ℕ) → Sized g → j < g .starts → j / 2 * g .stride ≤ levelRoom
+row-above g j z h = mul-le-mul {n₂ = startsRoom} (omega (arith, starts-small g z)) (z .few-above)
 
-pub row-place : (g : Grid) (j : ℕ) → Sized g → j ≤ g .starts → j * g .starts ≤ 1099513724929
-row-place g j z h = mul-le-mul {n₂ = 1048577} (omega (arith, starts-small g z)) (starts-small g z)
+pub row-place : (g : Grid) (j : ℕ) → Sized g → j ≤ g .starts → j * g .starts ≤ levelRoom
+row-place g j z h = mul-le-mul {n₂ = startsRoom} (omega (arith, starts-small g z)) (starts-small g z)
 
--- a loop that has gone through all n ends with the definition's n
-pub all-done : (A : Type 0) (f : ℕ → A) (n i : ℕ) (a : A) → i ≤ n → a ≡ f i → n ≤ i → a ≡ f n
-all-done A f n i a h e k = e ∙ ap f (omega arith)
+-- a loop that has gone through all k ends with the definition's k
+pub all-done : (A : Type 0) (f : ℕ → A) (k i : ℕ) (a : A) → i ≤ k → a ≡ f i → k ≤ i → a ≡ f k
+all-done A f k i a h e l = e ∙ ap f (omega arith)
 
 -- ---- the first pass
 
@@ -49,9 +50,9 @@ pub looked-at : (s : Sense) (f : ℕ → ℕ → ℕ) (x y area : ℕ) (best r :
 looked-at s f x y area best r e h = h ∙ ap (λ (a : ℕ). replaced s best (record { area = a; x = x; y = y })) e
 
 module _ (s : Sense) (f : ℕ → ℕ → ℕ) (t y i : ℕ) (before best : Spot) (so-far : best ≡ bestInRow s f t y i before) where
-  pub row-spares : (n : ℕ) (flags : List ℕ) (above : ℕ) → Spares s f t y n flags above (before .area) → i < n → getD flags (above + i / 2) 0 ≡ 1 →
+  pub row-spares : (k : ℕ) (flags : List ℕ) (stride j : ℕ) → Spares s (λ x. f x y) t k flags stride j (before .area) → i < k → flagAbove flags stride i j ≡ 1 →
       NoBetter s (f (i * t) y) (best .area)
-  row-spares n flags above p h e =
+  row-spares k flags stride j p h e =
       no-better-trans s (f (i * t) y) (before .area) (best .area) (p i h e)
       (subst (λ (b : Spot). NoBetter s (before .area) (b .area)) (sym so-far) (row-stays s f t y i before))
 
@@ -59,165 +60,205 @@ module _ (s : Sense) (f : ℕ → ℕ → ℕ) (t y i : ℕ) (before best : Spot
   unfolding bestInRow
   row-next r e = e ∙ ap (λ (b : Spot). replaced s b (spotAt f (i * t) y)) so-far ∙ ap (λ (k : ℕ). bestInRow s f t y k before) (sym (add-one i))
 
-module _ (s : Sense) (f : ℕ → ℕ → ℕ) (t n j : ℕ) (before best : Spot) (so-far : best ≡ bestInRows s f t n j before) where
-  pub rows-spare : (rs : List Rect) (m w : ℕ) (flags : List ℕ) (side : ℕ) → HarmlessRow s rs m w t flags side j (before .area) →
-      HarmlessRow s rs m w t flags side j (best .area)
-  rows-spare rs m w flags side p i h e =
-      no-better-trans s (farArea s rs m w t (i * t) (j * t)) (before .area) (best .area) (p i h e)
-      (subst (λ (b : Spot). NoBetter s (before .area) (b .area)) (sym so-far) (rows-stay s f t n j before))
+module _ (s : Sense) (f : ℕ → ℕ → ℕ) (t k j : ℕ) (before best : Spot) (so-far : best ≡ bestInRows s f t k j before) where
+  pub rows-spare : (rs : List Rect) (n w : ℕ) (flags : List ℕ) (stride : ℕ) → HarmlessRow s rs n w t flags stride j (before .area) →
+      HarmlessRow s rs n w t flags stride j (best .area)
+  rows-spare rs n w flags stride p i h e =
+      no-better-trans s (farArea s rs n w t (i * t) (j * t)) (before .area) (best .area) (p i h e)
+      (subst (λ (b : Spot). NoBetter s (before .area) (b .area)) (sym so-far) (rows-stay s f t k j before))
 
-  pub rows-next : (r : Spot) → r ≡ bestInRow s f t (j * t) n best → r ≡ bestInRows s f t n (j + 1) before
+  pub rows-next : (r : Spot) → r ≡ bestInRow s f t (j * t) k best → r ≡ bestInRows s f t k (j + 1) before
   unfolding bestInRows
-  rows-next r e = e ∙ ap (λ (b : Spot). bestInRow s f t (j * t) n b) so-far ∙ ap (λ (k : ℕ). bestInRows s f t n k before) (sym (add-one j))
+  rows-next r e = e ∙ ap (λ (b : Spot). bestInRow s f t (j * t) k b) so-far ∙ ap (λ (i : ℕ). bestInRows s f t k i before) (sym (add-one j))
 
 -- ---- the second pass
 
 -- what one start does to the search and to the table of flags
-pub record Weighed (s : Sense) (best : ℕ) (far : Spot) (at : ℕ) (before after : Far) (new new′ : List ℕ) : Type 0 where
-  pub search : after ≡ weighed s best before far
-  pub flags : new′ ≡ set new at (flagOf s best (far .area))
+pub record Weighed (s : Sense) (far at : ℕ) (before after : Level) (new new′ : List ℕ) : Type 0 where
+  pub search : after ≡ weighed s before far
+  pub flags : new′ ≡ set new at (flagOf s (before .named .area) far)
 
-module _ (s : Sense) (best : ℕ) (far : Spot) (at : ℕ) (before : Far) (new new′ : List ℕ) where
-  pub weighs-more : (bound : Spot) → better s (far .area) best ≡ true → bound ≡ replaced s (before .bound) far → new′ ≡ set new at 0 →
-      Weighed s best far at before (record { bound = bound; kept = before .kept + 1 }) new new′
-  weighs-more bound h e f =
+module _ (s : Sense) (far at : ℕ) (before : Level) (new new′ : List ℕ) where
+  pub weighs-more : (limit : ℕ) → better s far (before .named .area) ≡ true → limit ≡ betterArea s (before .limit) far → new′ ≡ set new at 0 →
+      Weighed s far at before (record { named = before .named; limit = limit; kept = before .kept + 1 }) new new′
+  weighs-more limit h e f =
       record {
-        search = ap₂ (λ (b : Spot) (k : ℕ). record { bound = b; kept = before .kept + k }) e (ap one-if (sym h));
+        search = ap₂ (λ (l k : ℕ). record { named = before .named; limit = l; kept = before .kept + k }) e (ap one-if (sym h));
         flags = f ∙ ap (λ (b : Bool). set new at (one-if (not b))) (sym h);
       }
 
-  pub weighs-nothing : better s (far .area) best ≡ false → NoBetter s best (before .bound .area) → new′ ≡ set new at 1 →
-      Weighed s best far at before before new new′
+  pub weighs-nothing : NoBetter s far (before .named .area) → NoBetter s (before .named .area) (before .limit) → new′ ≡ set new at 1 →
+      Weighed s far at before before new new′
   weighs-nothing h p f =
       record {
-        search = ap₂ (λ (b : Spot) (k : ℕ). record { bound = b; kept = k }) (sym stands) none;
+        search = ap₂ (λ (l k : ℕ). record { named = before .named; limit = l; kept = k }) (sym stands) none;
         flags = f ∙ ap (λ (b : Bool). set new at (one-if (not b))) (sym h);
       }
     where
-      stands : replaced s (before .bound) far ≡ before .bound
-      stands = step-skip s (before .bound) far (no-better-trans s (far .area) best (before .bound .area) h p)
+      stands : betterArea s (before .limit) far ≡ before .limit
+      stands = area-skip s (before .limit) far (no-better-trans s far (before .named .area) (before .limit) h p)
 
-      none : before .kept ≡ before .kept + one-if (better s (far .area) best)
+      none : before .kept ≡ before .kept + one-if (better s far (before .named .area))
       none = rw h (omega arith)
 
-pub weighed-at : (s : Sense) (best area x y at : ℕ) (f : ℕ → ℕ → ℕ) (before after : Far) (new new′ : List ℕ) → area ≡ f x y →
-    Weighed s best (record { area = area; x = x; y = y }) at before after new new′ → Weighed s best (spotAt f x y) at before after new new′
-weighed-at s best area x y at f before after new new′ e h =
-    subst (λ (a : ℕ). Weighed s best (record { area = a; x = x; y = y }) at before after new new′) e h
+pub weighed-at : (s : Sense) (far far′ at : ℕ) (before after : Level) (new new′ : List ℕ) → far ≡ far′ → Weighed s far at before after new new′ →
+    Weighed s far′ at before after new new′
+weighed-at s far far′ at before after new new′ e h = subst (λ (a : ℕ). Weighed s a at before after new new′) e h
 
 -- the first i starts of a row were weighed
-pub record RowSoFar (s : Sense) (best : ℕ) (f : ℕ → ℕ → ℕ) (t y at i : ℕ) (before after : Far) (new new′ : List ℕ) : Type 0 where
-  pub search : after ≡ farInRow s best f t y i before
-  pub flags : new′ ≡ flagsInRow s best f t y at i new
+pub record RowSoFar (s : Sense) (f : ℕ → ℕ) (t at i : ℕ) (before after : Level) (new new′ : List ℕ) : Type 0 where
+  pub search : after ≡ farInRow s f t i before
+  pub flags : new′ ≡ flagsInRow s (before .named .area) f t at i new
 
--- the search of the second pass is the fold for C, and it counts the starts whose far area is better
-far-row-bound : (s : Sense) (best : ℕ) (f : ℕ → ℕ → ℕ) (t y n : ℕ) (b : Far) → farInRow s best f t y n b .bound ≡ bestInRow s f t y n (b .bound)
-unfolding farInRow bestInRow
-far-row-bound s best f t y zero b = refl
-far-row-bound s best f t y (suc n) b = ap (λ (c : Spot). replaced s c (spotAt f (n * t) y)) (far-row-bound s best f t y n b)
+-- the search leaves the window, its limit is no worse than before, and it counts the starts whose far area is better
+far-row-named : (s : Sense) (f : ℕ → ℕ) (t k : ℕ) (v : Level) → farInRow s f t k v .named ≡ v .named
+unfolding farInRow
+far-row-named s f t zero v = refl
+far-row-named s f t (suc k) v = far-row-named s f t k v
 
-far-row-kept : (s : Sense) (best : ℕ) (f : ℕ → ℕ → ℕ) (t y n : ℕ) (b : Far) →
-    farInRow s best f t y n b .kept ≡ b .kept + sum n (λ i. one-if (better s (f (i * t) y) best))
+far-row-stays : (s : Sense) (f : ℕ → ℕ) (t k : ℕ) (v : Level) → NoBetter s (v .named .area) (v .limit) → NoBetter s (v .named .area) (farInRow s f t k v .limit)
+unfolding farInRow
+far-row-stays s f t zero v h = h
+far-row-stays s f t (suc k) v h =
+    no-better-trans s (v .named .area) (farInRow s f t k v .limit) (farInRow s f t (suc k) v .limit) (far-row-stays s f t k v h)
+    (area-stays s (farInRow s f t k v .limit) (f (k * t)))
+
+far-row-kept : (s : Sense) (f : ℕ → ℕ) (t k : ℕ) (v : Level) →
+    farInRow s f t k v .kept ≡ v .kept + sum k (λ i. one-if (better s (f (i * t)) (v .named .area)))
 unfolding farInRow sum
-far-row-kept s best f t y zero b = omega arith
-far-row-kept s best f t y (suc n) b = omega (arith, far-row-kept s best f t y n b)
+far-row-kept s f t zero v = omega arith
+far-row-kept s f t (suc k) v =
+    omega (arith, far-row-kept s f t k v, ap (λ (b : Spot). one-if (better s (f (k * t)) (b .area))) (far-row-named s f t k v))
 
-row-kept-few : (s : Sense) (best : ℕ) (f : ℕ → ℕ → ℕ) (t y n : ℕ) (b : Far) → farInRow s best f t y n b .kept ≤ b .kept + n
-row-kept-few s best f t y n b =
+row-kept-few : (s : Sense) (f : ℕ → ℕ) (t k : ℕ) (v : Level) → farInRow s f t k v .kept ≤ v .kept + k
+row-kept-few s f t k v =
     omega (
       arith,
-      far-row-kept s best f t y n b,
-      sum-le n (λ i. one-if (better s (f (i * t) y) best)) (λ i. 1) (λ i h. one-if-small (better s (f (i * t) y) best)),
-      sum-const n 1,
+      far-row-kept s f t k v,
+      sum-le k (λ i. one-if (better s (f (i * t)) (v .named .area))) (λ i. 1) (λ i h. one-if-small (better s (f (i * t)) (v .named .area))),
+      sum-const k 1,
     )
 
-flags-row-length : (s : Sense) (best : ℕ) (f : ℕ → ℕ → ℕ) (t y at n : ℕ) (l : List ℕ) → length (flagsInRow s best f t y at n l) ≡ length l
+flags-row-length : (s : Sense) (best : ℕ) (f : ℕ → ℕ) (t at k : ℕ) (l : List ℕ) → length (flagsInRow s best f t at k l) ≡ length l
 unfolding flagsInRow
-flags-row-length s best f t y at zero l = refl
-flags-row-length s best f t y at (suc n) l =
-    length-set (flagsInRow s best f t y at n l) (at + n) (flagOf s best (f (n * t) y)) ∙ flags-row-length s best f t y at n l
+flags-row-length s best f t at zero l = refl
+flags-row-length s best f t at (suc k) l =
+    length-set (flagsInRow s best f t at k l) (at + k) (flagOf s best (f (k * t))) ∙ flags-row-length s best f t at k l
 
-pub row-begins : (s : Sense) (best : ℕ) (f : ℕ → ℕ → ℕ) (t y at : ℕ) (before : Far) (new : List ℕ) → RowSoFar s best f t y at 0 before before new new
+pub row-begins : (s : Sense) (f : ℕ → ℕ) (t at : ℕ) (before : Level) (new : List ℕ) → RowSoFar s f t at 0 before before new new
 unfolding farInRow flagsInRow
-row-begins s best f t y at before new = record { search = refl; flags = refl }
+row-begins s f t at before new = record { search = refl; flags = refl }
 
-module _ (s : Sense) (best : ℕ) (f : ℕ → ℕ → ℕ) (t y at i : ℕ) (before after : Far) (new new′ : List ℕ) (so-far : RowSoFar s best f t y at i before after new new′) where
-  pub row-bound-stays : NoBetter s best (before .bound .area) → NoBetter s best (after .bound .area)
-  row-bound-stays h =
-      rw (so-far .search, far-row-bound s best f t y i before)
-      (no-better-trans s best (before .bound .area) (bestInRow s f t y i (before .bound) .area) h (row-stays s f t y i (before .bound)))
+module _ (s : Sense) (f : ℕ → ℕ) (t at i : ℕ) (before after : Level) (new new′ : List ℕ) (so-far : RowSoFar s f t at i before after new new′) where
+  pub row-named : after .named ≡ before .named
+  row-named = ap (λ (v : Level). v .named) (so-far .search) ∙ far-row-named s f t i before
 
-  pub row-few : after .kept ≤ before .kept + i
-  row-few = rw (so-far .search) (row-kept-few s best f t y i before)
+  -- what is no better than the window before the row is no better than it now
+  pub row-no-better : (a : ℕ) → NoBetter s a (before .named .area) → NoBetter s a (after .named .area)
+  row-no-better a h = subst (λ (b : Spot). NoBetter s a (b .area)) (sym row-named) h
+
+  pub row-weighable : i ≤ startsRoom → Weighable s levelRoom before → Weighable s keptRoom after
+  row-weighable h z =
+      record {
+        few = omega (arith, ap (λ (v : Level). v .kept) (so-far .search), row-kept-few s f t i before, z .few);
+        stands = rw (so-far .search, far-row-named s f t i before) (far-row-stays s f t i before (z .stands));
+      }
 
   pub row-length : length new′ ≡ length new
-  row-length = ap length (so-far .flags) ∙ flags-row-length s best f t y at i new
+  row-length = ap length (so-far .flags) ∙ flags-row-length s (before .named .area) f t at i new
 
-  pub row-advances : (r : Far) (l : List ℕ) → Weighed s best (spotAt f (i * t) y) (at + i) after r new′ l → RowSoFar s best f t y at (i + 1) before r new l
+  pub row-advances : (r : Level) (l : List ℕ) → Weighed s (f (i * t)) (at + i) after r new′ l → RowSoFar s f t at (i + 1) before r new l
   unfolding farInRow flagsInRow
   row-advances r l w =
       record {
-        search = w .search ∙ ap (λ (b : Far). weighed s best b (spotAt f (i * t) y)) (so-far .search)
-            ∙ ap (λ (k : ℕ). farInRow s best f t y k before) (sym (add-one i));
-        flags = w .flags ∙ ap (λ (m : List ℕ). set m (at + i) (flagOf s best (f (i * t) y))) (so-far .flags)
-            ∙ ap (λ (k : ℕ). flagsInRow s best f t y at k new) (sym (add-one i));
+        search = w .search ∙ ap (λ (v : Level). weighed s v (f (i * t))) (so-far .search) ∙ ap (λ (k : ℕ). farInRow s f t k before) (sym (add-one i));
+        flags = w .flags ∙ ap₂ (λ (m : List ℕ) (b : Spot). set m (at + i) (flagOf s (b .area) (f (i * t)))) (so-far .flags) row-named
+            ∙ ap (λ (k : ℕ). flagsInRow s (before .named .area) f t at k new) (sym (add-one i));
       }
 
-  pub row-is-done : (n : ℕ) → i ≤ n → n ≤ i → RowSoFar s best f t y at n before after new new′
-  row-is-done n h k = subst (λ (m : ℕ). RowSoFar s best f t y at m before after new new′) (omega arith) so-far
+  pub row-is-done : (k : ℕ) → i ≤ k → k ≤ i → RowSoFar s f t at k before after new new′
+  row-is-done k h l = subst (λ (m : ℕ). RowSoFar s f t at m before after new new′) (omega arith) so-far
 
 -- the first j rows were weighed
-pub record RowsSoFar (s : Sense) (best : ℕ) (f : ℕ → ℕ → ℕ) (t n j : ℕ) (before after : Far) (new new′ : List ℕ) : Type 0 where
-  pub search : after ≡ farInRows s best f t n j before
-  pub flags : new′ ≡ flagsInRows s best f t n j new
+pub record RowsSoFar (s : Sense) (f : ℕ → ℕ → ℕ) (t k j : ℕ) (before after : Level) (new new′ : List ℕ) : Type 0 where
+  pub search : after ≡ farInRows s f t k j before
+  pub flags : new′ ≡ flagsInRows s (before .named .area) f t k j new
 
-pub far-rows-bound : (s : Sense) (best : ℕ) (f : ℕ → ℕ → ℕ) (t n m : ℕ) (b : Far) → farInRows s best f t n m b .bound ≡ bestInRows s f t n m (b .bound)
-unfolding farInRows bestInRows
-far-rows-bound s best f t n zero b = refl
-far-rows-bound s best f t n (suc m) b =
-    far-row-bound s best f t (m * t) n (farInRows s best f t n m b) ∙ ap (λ (c : Spot). bestInRow s f t (m * t) n c) (far-rows-bound s best f t n m b)
-
-pub far-rows-kept : (s : Sense) (best : ℕ) (f : ℕ → ℕ → ℕ) (t n m : ℕ) (b : Far) →
-    farInRows s best f t n m b .kept ≡ b .kept + sum m (λ j. sum n (λ i. one-if (better s (f (i * t) (j * t)) best)))
-unfolding farInRows sum
-far-rows-kept s best f t n zero b = omega arith
-far-rows-kept s best f t n (suc m) b = omega (arith, far-row-kept s best f t (m * t) n (farInRows s best f t n m b), far-rows-kept s best f t n m b)
-
-rows-kept-few : (s : Sense) (best : ℕ) (f : ℕ → ℕ → ℕ) (t n m : ℕ) (b : Far) → farInRows s best f t n m b .kept ≤ b .kept + m * n
+pub far-rows-named : (s : Sense) (f : ℕ → ℕ → ℕ) (t k m : ℕ) (v : Level) → farInRows s f t k m v .named ≡ v .named
 unfolding farInRows
-rows-kept-few s best f t n zero b = omega arith
-rows-kept-few s best f t n (suc m) b = omega (arith, row-kept-few s best f t (m * t) n (farInRows s best f t n m b), rows-kept-few s best f t n m b)
+far-rows-named s f t k zero v = refl
+far-rows-named s f t k (suc m) v = far-row-named s (λ x. f x (m * t)) t k (farInRows s f t k m v) ∙ far-rows-named s f t k m v
 
-flags-rows-length : (s : Sense) (best : ℕ) (f : ℕ → ℕ → ℕ) (t n m : ℕ) (l : List ℕ) → length (flagsInRows s best f t n m l) ≡ length l
+far-rows-stay : (s : Sense) (f : ℕ → ℕ → ℕ) (t k m : ℕ) (v : Level) → NoBetter s (v .named .area) (v .limit) → NoBetter s (v .named .area) (farInRows s f t k m v .limit)
+unfolding farInRows
+far-rows-stay s f t k zero v h = h
+far-rows-stay s f t k (suc m) v h =
+    rw (far-rows-named s f t k m v) at (far-row-stays s (λ x. f x (m * t)) t k (farInRows s f t k m v) (rw (far-rows-named s f t k m v) (far-rows-stay s f t k m v h)))
+
+-- the limit is the fold for C
+far-row-limit : (s : Sense) (f : ℕ → ℕ → ℕ) (t y k : ℕ) (v : Level) (b : Spot) → v .limit ≡ b .area →
+    farInRow s (λ x. f x y) t k v .limit ≡ bestInRow s f t y k b .area
+unfolding farInRow bestInRow
+far-row-limit s f t y zero v b e = e
+far-row-limit s f t y (suc k) v b e =
+    ap (λ (l : ℕ). betterArea s l (f (k * t) y)) (far-row-limit s f t y k v b e) ∙ area-better s (bestInRow s f t y k b) (spotAt f (k * t) y)
+
+pub far-rows-limit : (s : Sense) (f : ℕ → ℕ → ℕ) (t k m : ℕ) (v : Level) (b : Spot) → v .limit ≡ b .area →
+    farInRows s f t k m v .limit ≡ bestInRows s f t k m b .area
+unfolding farInRows bestInRows
+far-rows-limit s f t k zero v b e = e
+far-rows-limit s f t k (suc m) v b e = far-row-limit s f t (m * t) k (farInRows s f t k m v) (bestInRows s f t k m b) (far-rows-limit s f t k m v b e)
+
+pub far-rows-kept : (s : Sense) (f : ℕ → ℕ → ℕ) (t k m : ℕ) (v : Level) →
+    farInRows s f t k m v .kept ≡ v .kept + sum m (λ j. sum k (λ i. one-if (better s (f (i * t) (j * t)) (v .named .area))))
+unfolding farInRows sum
+far-rows-kept s f t k zero v = omega arith
+far-rows-kept s f t k (suc m) v =
+    omega (
+      arith,
+      far-row-kept s (λ x. f x (m * t)) t k (farInRows s f t k m v),
+      far-rows-kept s f t k m v,
+      ap (λ (b : Spot). sum k (λ i. one-if (better s (f (i * t) (m * t)) (b .area)))) (far-rows-named s f t k m v),
+    )
+
+rows-kept-few : (s : Sense) (f : ℕ → ℕ → ℕ) (t k m : ℕ) (v : Level) → farInRows s f t k m v .kept ≤ v .kept + m * k
+unfolding farInRows
+rows-kept-few s f t k zero v = omega arith
+rows-kept-few s f t k (suc m) v = omega (arith, row-kept-few s (λ x. f x (m * t)) t k (farInRows s f t k m v), rows-kept-few s f t k m v)
+
+flags-rows-length : (s : Sense) (best : ℕ) (f : ℕ → ℕ → ℕ) (t k m : ℕ) (l : List ℕ) → length (flagsInRows s best f t k m l) ≡ length l
 unfolding flagsInRows
-flags-rows-length s best f t n zero l = refl
-flags-rows-length s best f t n (suc m) l = flags-row-length s best f t (m * t) (m * n) n (flagsInRows s best f t n m l) ∙ flags-rows-length s best f t n m l
+flags-rows-length s best f t k zero l = refl
+flags-rows-length s best f t k (suc m) l =
+    flags-row-length s best (λ x. f x (m * t)) t (m * k) k (flagsInRows s best f t k m l) ∙ flags-rows-length s best f t k m l
 
-pub rows-begin : (s : Sense) (best : ℕ) (f : ℕ → ℕ → ℕ) (t n : ℕ) (before : Far) (new : List ℕ) → RowsSoFar s best f t n 0 before before new new
+pub rows-begin : (s : Sense) (f : ℕ → ℕ → ℕ) (t k : ℕ) (before : Level) (new : List ℕ) → RowsSoFar s f t k 0 before before new new
 unfolding farInRows flagsInRows
-rows-begin s best f t n before new = record { search = refl; flags = refl }
+rows-begin s f t k before new = record { search = refl; flags = refl }
 
-module _ (s : Sense) (best : ℕ) (f : ℕ → ℕ → ℕ) (t n j : ℕ) (before after : Far) (new new′ : List ℕ) (so-far : RowsSoFar s best f t n j before after new new′) where
-  pub rows-bound-stay : NoBetter s best (before .bound .area) → NoBetter s best (after .bound .area)
-  rows-bound-stay h =
-      rw (so-far .search, far-rows-bound s best f t n j before)
-      (no-better-trans s best (before .bound .area) (bestInRows s f t n j (before .bound) .area) h (rows-stay s f t n j (before .bound)))
+module _ (s : Sense) (f : ℕ → ℕ → ℕ) (t k j : ℕ) (before after : Level) (new new′ : List ℕ) (so-far : RowsSoFar s f t k j before after new new′) where
+  pub rows-named : after .named ≡ before .named
+  rows-named = ap (λ (v : Level). v .named) (so-far .search) ∙ far-rows-named s f t k j before
 
-  pub rows-few : after .kept ≤ before .kept + j * n
-  rows-few = rw (so-far .search) (rows-kept-few s best f t n j before)
+  pub rows-weighable : before .kept + j * k ≤ levelRoom → NoBetter s (before .named .area) (before .limit) → Weighable s levelRoom after
+  rows-weighable h z =
+      record {
+        few = omega (arith, ap (λ (v : Level). v .kept) (so-far .search), rows-kept-few s f t k j before);
+        stands = rw (so-far .search, far-rows-named s f t k j before) (far-rows-stay s f t k j before z);
+      }
 
   pub rows-length : length new′ ≡ length new
-  rows-length = ap length (so-far .flags) ∙ flags-rows-length s best f t n j new
+  rows-length = ap length (so-far .flags) ∙ flags-rows-length s (before .named .area) f t k j new
 
-  pub rows-advance : (r : Far) (l : List ℕ) → RowSoFar s best f t (j * t) (j * n) n after r new′ l → RowsSoFar s best f t n (j + 1) before r new l
+  pub rows-advance : (r : Level) (l : List ℕ) → RowSoFar s (λ x. f x (j * t)) t (j * k) k after r new′ l → RowsSoFar s f t k (j + 1) before r new l
   unfolding farInRows flagsInRows
   rows-advance r l w =
       record {
-        search = w .search ∙ ap (λ (b : Far). farInRow s best f t (j * t) n b) (so-far .search)
-            ∙ ap (λ (k : ℕ). farInRows s best f t n k before) (sym (add-one j));
-        flags = w .flags ∙ ap (λ (m : List ℕ). flagsInRow s best f t (j * t) (j * n) n m) (so-far .flags)
-            ∙ ap (λ (k : ℕ). flagsInRows s best f t n k new) (sym (add-one j));
+        search = w .search ∙ ap (λ (v : Level). farInRow s (λ x. f x (j * t)) t k v) (so-far .search)
+            ∙ ap (λ (i : ℕ). farInRows s f t k i before) (sym (add-one j));
+        flags = w .flags ∙ ap₂ (λ (m : List ℕ) (b : Spot). flagsInRow s (b .area) (λ x. f x (j * t)) t (j * k) k m) (so-far .flags) rows-named
+            ∙ ap (λ (i : ℕ). flagsInRows s (before .named .area) f t k i new) (sym (add-one j));
       }
 
-  pub rows-are-done : (m : ℕ) → j ≤ m → m ≤ j → RowsSoFar s best f t n m before after new new′
-  rows-are-done m h k = subst (λ (i : ℕ). RowsSoFar s best f t n i before after new new′) (omega arith) so-far
+  pub rows-are-done : (m : ℕ) → j ≤ m → m ≤ j → RowsSoFar s f t k m before after new new′
+  rows-are-done m h l = subst (λ (i : ℕ). RowsSoFar s f t k i before after new new′) (omega arith) so-far

@@ -16,10 +16,12 @@ use Rattle.geometry.specs.Overlaps.{StripSmall}
 use Rattle.geometry.proofs.Strips.{front-small, front-area}
 use Rattle.extremes.specs.Exact.{windowArea}
 use Rattle.zoom.specs.declared.Grid.{Grid}
-use Rattle.zoom.specs.declared.Far.{Far}
+use Rattle.zoom.specs.declared.Level.{Level}
 use Rattle.zoom.specs.Run.{farArea}
-use Rattle.zoom.specs.Passing.{HarmlessRow, flagsInRow, flagOf}
-use Rattle.zoom.specs.Grid.{Sized, Spares, spanFrom, spanTo, stripAt, alongStrip, weighed, farInRow}
+use Rattle.zoom.specs.Grid.{Sized}
+use Rattle.zoom.specs.Strips.{spanFrom, spanTo, stripAt, alongStrip, windowAlong}
+use Rattle.zoom.specs.Passing.{HarmlessRow, Spares, flagsInRow, flagOf}
+use Rattle.zoom.specs.Weighing.{weighed, farInRow}
 use Rattle.zoom.proofs.Folds.{row-cong}
 use Rattle.zoom.proofs.Starts.{standard-is-far}
 use Rattle.zoom.proofs.PassOver.{standard-no-better}
@@ -28,11 +30,11 @@ use Rattle.zoom.proofs.Passes.{start-inside, RowSoFar}
 -- what a strip at the front of a buffer is good for, in row j
 pub record Reads (s : Sense) (f : ℕ → ℕ → ℕ) (g : Grid) (u j : ℕ) (strip : List ℕ) : Type 0 where
   pub small : StripSmall strip
-  pub areas : (i : ℕ) → i < g .starts → alongStrip s strip (g .n) (g .w) u (i * g .t) (j * g .t) ≡ f (i * g .t) (j * g .t)
+  pub areas : (i : ℕ) → i < g .starts → alongStrip s strip (g .n) (g .w) u (i * g .t) ≡ f (i * g .t) (j * g .t)
 
--- its sums are the areas of far windows, which with tile side 0 are standard ones
+-- its sums are the areas of far windows, which with step 0 are standard ones
 strip-is-far : (s : Sense) (table : List ℕ) (n w t x y : ℕ) (before after : List ℕ) (r : ℕ) → Drawn table →
-    Front before (stripAt s (rectsOf table) n w t y) after r → alongStrip s (take r after) n w t x y ≡ farArea s (rectsOf table) n w t x y
+    Front before (stripAt s (rectsOf table) n w t y) after r → alongStrip s (take r after) n w t x ≡ farArea s (rectsOf table) n w t x y
 strip-is-far Greatest table n w t x y before after r d e =
     front-area table (spanFrom Greatest t y) (spanTo Greatest n w t y) before after r e d (spanFrom Greatest t x) (spanTo Greatest n w t x)
 strip-is-far Least table n w t x y before after r d e =
@@ -60,44 +62,43 @@ module _ (s : Sense) (table : List ℕ) (g : Grid) (j : ℕ) (d : Drawn table) (
 -- ---- the first pass
 
 -- what is harmless in the row is harmless along its strip
-pub harmless-standard : (s : Sense) (rs : List Rect) (g : Grid) (j : ℕ) (strip flags : List ℕ) (side best : ℕ) → Sized g → j < g .starts →
-    Reads s (windowArea rs (g .w)) g 0 j strip → HarmlessRow s rs (g .n) (g .w) (g .t) flags side j best →
-    Spares s (alongStrip s strip (g .n) (g .w) 0) (g .t) (j * g .t) (g .starts) flags (j / 2 * side) best
-harmless-standard s rs g j strip flags side best z k q p i h e =
+pub harmless-standard : (s : Sense) (rs : List Rect) (g : Grid) (j : ℕ) (strip flags : List ℕ) (stride best : ℕ) → Sized g → j < g .starts →
+    Reads s (windowArea rs (g .w)) g 0 j strip → HarmlessRow s rs (g .n) (g .w) (g .t) flags stride j best →
+    Spares s (alongStrip s strip (g .n) (g .w) 0) (g .t) (g .starts) flags stride j best
+harmless-standard s rs g j strip flags stride best z k q p i h e =
     rw (q .areas i h)
-    (standard-no-better s rs (g .n) (g .w) (g .t) i j best (z .tile) (z .inside) (rw (z .count) at h) (rw (z .count) at k) (p i (rw (z .count) at h) e))
+    (standard-no-better s rs (g .n) (g .w) (g .t) i j best (z .some-step) (z .inside) (rw (z .count) at h) (rw (z .count) at k) (p i (rw (z .count) at h) e))
 
-pub row-by-strip : (s : Sense) (f : ℕ → ℕ → ℕ) (g : Grid) (u j : ℕ) (strip : List ℕ) (before r : Spot) → Reads s f g u j strip →
-    r ≡ bestInRow s (alongStrip s strip (g .n) (g .w) u) (g .t) (j * g .t) (g .starts) before → r ≡ bestInRow s f (g .t) (j * g .t) (g .starts) before
-row-by-strip s f g u j strip before r q e = e ∙ row-cong s (alongStrip s strip (g .n) (g .w) u) f (g .t) (j * g .t) (g .starts) before (q .areas)
+pub row-by-strip : (s : Sense) (f : ℕ → ℕ → ℕ) (g : Grid) (j : ℕ) (strip : List ℕ) (before r : Spot) → Reads s f g 0 j strip →
+    r ≡ bestInRow s (windowAlong s strip (g .n) (g .w)) (g .t) (j * g .t) (g .starts) before → r ≡ bestInRow s f (g .t) (j * g .t) (g .starts) before
+row-by-strip s f g j strip before r q e = e ∙ row-cong s (windowAlong s strip (g .n) (g .w)) f (g .t) (j * g .t) (g .starts) before (q .areas)
 
 -- ---- the second pass
 
-pub harmless-far : (s : Sense) (rs : List Rect) (g : Grid) (j : ℕ) (strip flags : List ℕ) (side best : ℕ) → Sized g →
-    Reads s (farArea s rs (g .n) (g .w) (g .t)) g (g .t) j strip → HarmlessRow s rs (g .n) (g .w) (g .t) flags side j best →
-    Spares s (alongStrip s strip (g .n) (g .w) (g .t)) (g .t) (j * g .t) (g .starts) flags (j / 2 * side) best
-harmless-far s rs g j strip flags side best z q p i h e = rw (q .areas i h) (p i (rw (z .count) at h) e)
+pub harmless-far : (s : Sense) (rs : List Rect) (g : Grid) (j : ℕ) (strip flags : List ℕ) (stride best : ℕ) → Sized g →
+    Reads s (farArea s rs (g .n) (g .w) (g .t)) g (g .t) j strip → HarmlessRow s rs (g .n) (g .w) (g .t) flags stride j best →
+    Spares s (alongStrip s strip (g .n) (g .w) (g .t)) (g .t) (g .starts) flags stride j best
+harmless-far s rs g j strip flags stride best z q p i h e = rw (q .areas i h) (p i (rw (z .count) at h) e)
 
-far-row-cong : (s : Sense) (best : ℕ) (f g : ℕ → ℕ → ℕ) (t y n : ℕ) (b : Far) → ((i : ℕ) → i < n → f (i * t) y ≡ g (i * t) y) →
-    farInRow s best f t y n b ≡ farInRow s best g t y n b
+far-row-cong : (s : Sense) (f g : ℕ → ℕ) (t k : ℕ) (v : Level) → ((i : ℕ) → i < k → f (i * t) ≡ g (i * t)) → farInRow s f t k v ≡ farInRow s g t k v
 unfolding farInRow
-far-row-cong s best f g t y zero b h = refl
-far-row-cong s best f g t y (suc n) b h =
-    ap₂ (λ (c : Far) (a : ℕ). weighed s best c (record { area = a; x = n * t; y = y })) (far-row-cong s best f g t y n b (λ i k. h i (omega arith)))
-    (h n (omega arith))
+far-row-cong s f g t zero v h = refl
+far-row-cong s f g t (suc k) v h =
+    ap₂ (λ (c : Level) (a : ℕ). weighed s c a) (far-row-cong s f g t k v (λ i l. h i (omega arith))) (h k (omega arith))
 
-flags-row-cong : (s : Sense) (best : ℕ) (f g : ℕ → ℕ → ℕ) (t y at n : ℕ) (l : List ℕ) → ((i : ℕ) → i < n → f (i * t) y ≡ g (i * t) y) →
-    flagsInRow s best f t y at n l ≡ flagsInRow s best g t y at n l
+flags-row-cong : (s : Sense) (best : ℕ) (f g : ℕ → ℕ) (t at k : ℕ) (l : List ℕ) → ((i : ℕ) → i < k → f (i * t) ≡ g (i * t)) →
+    flagsInRow s best f t at k l ≡ flagsInRow s best g t at k l
 unfolding flagsInRow
-flags-row-cong s best f g t y at zero l h = refl
-flags-row-cong s best f g t y at (suc n) l h =
-    ap₂ (λ (m : List ℕ) (a : ℕ). set m (at + n) (flagOf s best a)) (flags-row-cong s best f g t y at n l (λ i k. h i (omega arith))) (h n (omega arith))
+flags-row-cong s best f g t at zero l h = refl
+flags-row-cong s best f g t at (suc k) l h =
+    ap₂ (λ (m : List ℕ) (a : ℕ). set m (at + k) (flagOf s best a)) (flags-row-cong s best f g t at k l (λ i p. h i (omega arith))) (h k (omega arith))
 
-pub far-row-by-strip : (s : Sense) (best : ℕ) (f : ℕ → ℕ → ℕ) (g : Grid) (u j at : ℕ) (strip : List ℕ) (before after : Far) (new new′ : List ℕ) →
-    Reads s f g u j strip → RowSoFar s best (alongStrip s strip (g .n) (g .w) u) (g .t) (j * g .t) at (g .starts) before after new new′ →
-    RowSoFar s best f (g .t) (j * g .t) at (g .starts) before after new new′
-far-row-by-strip s best f g u j at strip before after new new′ q w =
+pub far-row-by-strip : (s : Sense) (f : ℕ → ℕ → ℕ) (g : Grid) (u j at : ℕ) (strip : List ℕ) (before after : Level) (new new′ : List ℕ) →
+    Reads s f g u j strip → RowSoFar s (alongStrip s strip (g .n) (g .w) u) (g .t) at (g .starts) before after new new′ →
+    RowSoFar s (λ x. f x (j * g .t)) (g .t) at (g .starts) before after new new′
+far-row-by-strip s f g u j at strip before after new new′ q w =
     record {
-      search = w .search ∙ far-row-cong s best (alongStrip s strip (g .n) (g .w) u) f (g .t) (j * g .t) (g .starts) before (q .areas);
-      flags = w .flags ∙ flags-row-cong s best (alongStrip s strip (g .n) (g .w) u) f (g .t) (j * g .t) at (g .starts) new (q .areas);
+      search = w .search ∙ far-row-cong s (alongStrip s strip (g .n) (g .w) u) (λ x. f x (j * g .t)) (g .t) (g .starts) before (q .areas);
+      flags = w .flags
+          ∙ flags-row-cong s (before .named .area) (alongStrip s strip (g .n) (g .w) u) (λ x. f x (j * g .t)) (g .t) at (g .starts) new (q .areas);
     }

@@ -11,11 +11,10 @@ use Rattle.geometry.specs.declared.Sense.{Sense}
 use Rattle.geometry.specs.declared.Sense.the-variants.{Greatest, Least}
 use Rattle.geometry.specs.Count.{one-if}
 use Rattle.geometry.specs.Layout.{covered, coveredArea}
-use Rattle.geometry.specs.Extreme.{spotAt}
+use Rattle.geometry.specs.Extreme.{spotAt, NoBetter}
 use Rattle.geometry.proofs.Counting.{box-within}
 use Rattle.extremes.specs.Exact.{windowArea}
 use Rattle.zoom.specs.Run.{startsOn, bloated, shrunk, farArea}
-use Rattle.zoom.specs.Passing.{NoBetter}
 use Rattle.zoom.specs.Grid.{AtStart}
 
 -- ---- which starts there are
@@ -42,7 +41,7 @@ start-below n w t x p h =
       close = omega (arith, lt-div-mul-add {a = x} p);
     }
 
--- where a tile side is twice the next, start i of the next level lies in the tile of start i / 2
+-- where a step is twice the next, start i of the next level lies within a step of start i / 2
 half-row : (t i : ℕ) → (i / 2 * (2 * t) ≤ i * t) × (i * t + t ≤ i / 2 * (2 * t) + 2 * t)
 half-row t i = (omega (arith, doubled, mul-le-mul-right {m = i / 2 * 2} {n = i} t (omega arith)), omega (arith, doubled, mul-le-mul-right {m = suc i} {n = i / 2 * 2 + 2} t (omega arith)))
   where
@@ -54,7 +53,7 @@ half-start n w t i p h = fits-start n w (2 * t) (i / 2) (omega arith) (omega (ar
 
 -- ---- how windows lie in one another
 
--- a standard window is a bloated one, and a shrunk one, at tile side 0
+-- a standard window is a bloated one, and a shrunk one, at step 0
 pub standard-is-far : (s : Sense) (rs : List Rect) (n w x y : ℕ) → x + w ≤ n → y + w ≤ n → windowArea rs w x y ≡ farArea s rs n w 0 x y
 standard-is-far Greatest rs n w x y h k = ap₂ (λ (a b : ℕ). coveredArea rs (record { x1 = x; y1 = y; x2 = a; y2 = b })) (end x h) (end y k)
   where
@@ -62,7 +61,7 @@ standard-is-far Greatest rs n w x y h k = ap₂ (λ (a b : ℕ). coveredArea rs 
     end x h = omega arith
 standard-is-far Least rs n w x y h k = ap₂ (λ (a b : ℕ). coveredArea rs (record { x1 = a; y1 = b; x2 = x + w; y2 = y + w })) (sym (add-zero x)) (sym (add-zero y))
 
--- a far window whose tile lies in another's has no better an area
+-- a far window whose square of a step lies in another's has no better an area
 pub far-within : (s : Sense) (rs : List Rect) (n w t x y t′ x′ y′ : ℕ) → x′ ≤ x → x + t ≤ x′ + t′ → y′ ≤ y → y + t ≤ y′ + t′ →
     NoBetter s (farArea s rs n w t x y) (farArea s rs n w t′ x′ y′)
 far-within Greatest rs n w t x y t′ x′ y′ hx kx hy ky =

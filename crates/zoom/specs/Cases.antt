@@ -11,11 +11,11 @@ use Rattle.zoom.specs.Run.{levelAt, endNumber, quickRun}
 
 -- F with its window, C, kept
 abbrev pub levelNumbers : Level → List ℕ
-levelNumbers v = spotNumbers (v .window) (v .far ∷ v .kept ∷ [])
+levelNumbers v = spotNumbers (v .named) (v .limit ∷ v .kept ∷ [])
 
 -- the end, the levels done and the last of them
 abbrev pub quickNumbers : Quick → List ℕ
-quickNumbers q = endNumber (q .end) ∷ q .levels ∷ levelNumbers (q .last)
+quickNumbers q = endNumber (q .end) ∷ q .done ∷ levelNumbers (q .last)
 
 abbrev pub zoomRows : List Row
 zoomRows =

@@ -1,4 +1,8 @@
 pub mod Run
-pub mod Passing
+pub mod Limits
 pub mod Grid
+pub mod Strips
+pub mod Passing
+pub mod Weighing
+pub mod Next
 pub mod Cases

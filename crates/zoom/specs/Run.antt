@@ -1,6 +1,6 @@
 -- Document 01, "The quick run". Floor F, ceiling C, kept, level and end are its terms. Nothing is passed over here.
--- A level is stated over the sense of the extreme: of the greatest window F is `window .area` and C is `far`. The least sense serves
--- request 1 of document 02.
+-- A level is stated over the sense of the extreme. Of the greatest window the answer's line prints `named`, area and place, after floor (F),
+-- `limit` after ceiling (C), `kept` after kept, and `done` of the run after levels. The least sense serves request 1 of document 02.
 use Prim.Native.Nat.{ℕ, zero, suc, _+_, _-_, _*_, _/_, _^_, min}
 use mathlib.Core.Bool.{Bool, true, false}
 use mathlib.Core.List.{List}
@@ -23,9 +23,10 @@ use Rattle.zoom.specs.declared.Quick.{Quick}
 abbrev pub lastLevel : ℕ → ℕ
 lastLevel w = min 4 (trailingZeros 64 w)
 
--- the tile side at level j
-abbrev pub levelTile : ℕ → ℕ → ℕ
-levelTile w j = w / 2 ^ j
+-- the paper's tile side t at level j: the step from a start to the next, and by what a window is bloated or shrunk. It is not the side W/R of
+-- the tiles that the fill is judged by
+abbrev pub levelStep : (w j : ℕ) → ℕ
+levelStep w j = w / 2 ^ j
 
 -- the number of starts on an axis: the multiples of t up to n − w
 abbrev pub startsOn : (n w t : ℕ) → ℕ
@@ -48,7 +49,7 @@ farArea Least rs n w t x y = coveredArea rs (shrunk w t x y)
 abbrev pub bestStart : Sense → (ℕ → ℕ → ℕ) → (t k : ℕ) → Spot
 bestStart s f t k = bestInRows s f t k k (spotAt f 0 0)
 
--- the level of tile side t, where `before` is the window named by the levels before it. `best` is the level's own best window: its area is F,
+-- the level of step t, where `before` is the window named by the levels before it. `best` is the level's own best window: its area is F,
 -- the largest standard area. The named window gives way to it only if it is strictly larger, not on a tie. C is the largest bloated area, and
 -- kept counts the starts whose bloated area exceeds F. In a run F is the area of the named window too: `floor-is-best` in proofs/Bracket.antt.
 unfoldable pub levelOf : Sense → List Rect → (n w t : ℕ) → Spot → Level
@@ -56,24 +57,24 @@ levelOf s rs n w t before =
     let k = startsOn n w t in
     let best = bestStart s (windowArea rs w) t k in
     record {
-      window = replaced s before best;
-      far = bestStart s (farArea s rs n w t) t k .area;
+      named = replaced s before best;
+      limit = bestStart s (farArea s rs n w t) t k .area;
       kept = sum k (λ j. sum k (λ i. one-if (better s (farArea s rs n w t (i * t) (j * t)) (best .area))));
     }
 
 -- level j of a run: before it, the window at (0, 0) was named for j = 0, else that of the level before
 unfoldable pub levelAt : Sense → List Rect → (n w j : ℕ) → Level
-levelAt s rs n w zero = levelOf s rs n w (levelTile w 0) (spotAt (windowArea rs w) 0 0)
-levelAt s rs n w (suc j) = levelOf s rs n w (levelTile w (suc j)) (levelAt s rs n w j .window)
+levelAt s rs n w zero = levelOf s rs n w (levelStep w 0) (spotAt (windowArea rs w) 0 0)
+levelAt s rs n w (suc j) = levelOf s rs n w (levelStep w (suc j)) (levelAt s rs n w j .named)
 
 -- the lower and the upper end of a level's bracket
 abbrev pub lowEnd : Sense → Level → ℕ
-lowEnd Greatest v = v .window .area
-lowEnd Least v = v .far
+lowEnd Greatest v = v .named .area
+lowEnd Least v = v .limit
 
 abbrev pub highEnd : Sense → Level → ℕ
-highEnd Greatest v = v .far
-highEnd Least v = v .window .area
+highEnd Greatest v = v .limit
+highEnd Least v = v .named .area
 
 -- a level is met for accuracy e, in thousandths: 1000 × C ≤ (1000 + 2e) × F
 abbrev pub isMet : Sense → ℕ → Level → Bool
@@ -89,18 +90,18 @@ endNumber Exact = 2
 abbrev pub afterLevel : Sense → (e v j : ℕ) → Level → Quick → Quick
 afterLevel s e v j this next =
     elim (isMet s e this) [
-      | true ↦ record { end = Met; levels = suc j; last = this }
-      | false ↦ elim (leb v (suc j)) [ true ↦ record { end = Stopped; levels = suc j; last = this } | false ↦ next ]
+      | true ↦ record { end = Met; done = suc j; last = this }
+      | false ↦ elim (leb v (suc j)) [ true ↦ record { end = Stopped; done = suc j; last = this } | false ↦ next ]
     ]
 
 -- the exact search counts as one more level after level j: C is M, no start is kept, and its window m is named only where strictly better.
 -- F is M too: `exact-floor` in proofs/Bracket.antt
 abbrev pub exactEnd : Sense → (j : ℕ) → (before m : Spot) → Quick
-exactEnd s j before m = record { end = Exact; levels = suc (suc j); last = record { window = replaced s before m; far = m .area; kept = 0 } }
+exactEnd s j before m = record { end = Exact; done = suc (suc j); last = record { named = replaced s before m; limit = m .area; kept = 0 } }
 
 -- the run from level j on, with `left` levels after it before the exact search
 unfoldable pub runFrom : Sense → List Rect → (n w e v left j : ℕ) → Quick
-runFrom s rs n w e v zero j = let this = levelAt s rs n w j in afterLevel s e v j this (exactEnd s j (this .window) (extreme s rs n w))
+runFrom s rs n w e v zero j = let this = levelAt s rs n w j in afterLevel s e v j this (exactEnd s j (this .named) (extreme s rs n w))
 runFrom s rs n w e v (suc left) j = afterLevel s e v j (levelAt s rs n w j) (runFrom s rs n w e v left (suc j))
 
 -- the quick run for an extreme

@@ -1,17 +1,19 @@
 // The second pass of a level: C, the starts kept and the flags for the next
-// level, over the starts that are not passed over.
-ghost use Prim.Native.Nat.{_+_, _*_, _/_, _≤_, _<_};
+// level, over the starts that are not passed over. Its window is known by then,
+// so the level itself is carried through the search.
+ghost use Prim.Native.Nat.{_*_};
 ghost use mathlib.Core.Path.{_≡_};
 ghost use lib.ListN.{set};
-ghost use Rattle.geometry.specs.Extreme.{spotAt};
-ghost use Rattle.geometry.specs.Layout.{rectsOf, Drawn};
-ghost use Rattle.geometry.specs.Overlaps.{StripSmall};
+ghost use Rattle.geometry.specs.Layout.{rectsOf};
 ghost use Rattle.zoom.specs.Run.{farArea};
-ghost use Rattle.zoom.specs.Passing.{NoBetter, HarmlessRow, Harmless, flagOf, flagsInRow, flagsInRows};
-ghost use Rattle.zoom.specs.Grid.{Sized, alongStrip, Spares, weighed, farInRow, farInRows};
-use crate::Far;
+ghost use Rattle.zoom.specs.Limits.{levelRoom, keptRoom};
+ghost use Rattle.zoom.specs.Strips.{alongStrip};
+ghost use Rattle.zoom.specs.Passing.{flagOf, flagsInRow, flagsInRows, Passable, RowPassable, StripPassable};
+ghost use Rattle.zoom.specs.Weighing.{betterArea, weighed, farInRow, farInRows, Weighable};
 use crate::Grid;
-use crate::Held;
+use crate::Level;
+use crate::Part;
+use crate::STRIP_ROOM;
 use crate::flags::flag_at;
 use crate::flags::put_flag;
 use crate::parts::part_at;
@@ -20,19 +22,29 @@ use crate::spans::strip_at;
 use geometry::Sense;
 use geometry::Spot;
 
-// The answer for one start, whose far area is known, and its flag. One that is
-// no better than the best window cannot raise what stands.
-fn weigh(sense: Sense, best: u64, far: Spot, new: &mut [u8], at: u64, before: Far) -> Far
-    requires { ⌜ before .kept ≤ 4398046511104 ⌝ }
-    requires { ⌜ NoBetter sense best (before .bound .area) ⌝ }
-    ensures { λ r. ⌜ r ≡ weighed sense best before far ⌝ }
-    ensures { λ r. ⌜ now (new .exit) ≡ set (now (new .entry)) at (flagOf sense best (far .area)) ⌝ }
+fn better_area(sense: Sense, old: u64, new: u64) -> u64
+    ensures { λ r. ⌜ r ≡ betterArea sense old new ⌝ }
 {
-    if geometry::is_better(sense, far.area, best) {
+    if geometry::is_better(sense, new, old) {
+        return new;
+    }
+    old
+}
+
+// One start, whose far area is known, and its flag. One that is no better than
+// the level's window cannot raise the limit that stands.
+fn weigh(sense: Sense, far: u64, new: &mut [u8], at: u64, before: Level) -> Level
+    requires { ⌜ Weighable sense keptRoom before ⌝ }
+    ensures { λ r. ⌜ r ≡ weighed sense before far ⌝ }
+    ensures { λ r. ⌜ now (new .exit) ≡ set (now (new .entry)) at (flagOf sense (before .named .area) far) ⌝ }
+{
+    let named = before.named;
+    if geometry::is_better(sense, far, named.area) {
         put_flag(new, at, 0);
-        let bound = geometry::better_of(sense, before.bound, far);
-        return Far {
-            bound,
+        let limit = better_area(sense, before.limit, far);
+        return Level {
+            named,
+            limit,
             kept: before.kept + 1,
         };
     }
@@ -40,54 +52,18 @@ fn weigh(sense: Sense, best: u64, far: Spot, new: &mut [u8], at: u64, before: Fa
     before
 }
 
-// One start of a row, by what its window meets of the row's strip.
-fn look(
-    sense: Sense,
-    near: &[u64],
-    new: &mut [u8],
-    at: u64,
-    g: Grid,
-    x: u64,
-    y: u64,
-    best: u64,
-    before: Far,
-) -> Far
-    requires { ⌜ StripSmall (now near) ⌝ }
-    requires { ⌜ x + g .w + g .t ≤ 67108864 ⌝ }
-    requires { ⌜ before .kept ≤ 4398046511104 ⌝ }
-    requires { ⌜ NoBetter sense best (before .bound .area) ⌝ }
-    ensures { λ r. ⌜ r ≡ weighed sense best before (spotAt (alongStrip sense (now (near .entry)) (g .n) (g .w) (g .t)) x y) ⌝ }
-    ensures { λ r. ⌜ now (new .exit) ≡ set (now (new .entry)) at (flagOf sense best (alongStrip sense (now (near .entry)) (g .n) (g .w) (g .t) x y)) ⌝ }
+// The starts of row j, by its strip.
+fn row(strip: &[u64], flags: &[u8], new: &mut [u8], g: Grid, j: u64, before: Level) -> Level
+    requires { ⌜ StripPassable (now strip) (now flags) g (g .t) j (before .named .area) ⌝ }
+    requires { ⌜ Weighable (g .sense) levelRoom before ⌝ }
+    ensures { λ r. ⌜ r ≡ farInRow (g .sense) (alongStrip (g .sense) (now (strip .entry)) (g .n) (g .w) (g .t)) (g .t) (g .starts) before ⌝ }
+    ensures { λ r. ⌜ now (new .exit) ≡ flagsInRow (g .sense) (before .named .area) (alongStrip (g .sense) (now (strip .entry)) (g .n) (g .w) (g .t)) (g .t) (j * g .starts) (g .starts) (now (new .entry)) ⌝ }
 {
-    let area = along_strip(sense, near, g, g.t, x, y);
-    weigh(sense, best, Spot { area, x, y }, new, at, before)
-}
-
-// The starts of a row, by its strip.
-fn row(
-    sense: Sense,
-    strip: &[u64],
-    flags: &[u8],
-    above: u64,
-    new: &mut [u8],
-    at: u64,
-    g: Grid,
-    y: u64,
-    best: u64,
-    before: Far,
-) -> Far
-    requires { ⌜ StripSmall (now strip) ⌝ }
-    requires { ⌜ Sized g ⌝ }
-    requires { ⌜ above ≤ 1099513724929 ⌝ }
-    requires { ⌜ at ≤ 1099513724929 ⌝ }
-    requires { ⌜ before .kept ≤ 1099513724929 ⌝ }
-    requires { ⌜ NoBetter sense best (before .bound .area) ⌝ }
-    requires { ⌜ Spares sense (alongStrip sense (now strip) (g .n) (g .w) (g .t)) (g .t) y (g .starts) (now flags) above best ⌝ }
-    ensures { λ r. ⌜ r ≡ farInRow sense best (alongStrip sense (now (strip .entry)) (g .n) (g .w) (g .t)) (g .t) y (g .starts) before ⌝ }
-    ensures { λ r. ⌜ now (new .exit) ≡ flagsInRow sense best (alongStrip sense (now (strip .entry)) (g .n) (g .w) (g .t)) (g .t) y at (g .starts) (now (new .entry)) ⌝ }
-{
-    let mut near = [0u64; 4096];
-    let mut held = Held { count: 0, until: 0 };
+    let sense = g.sense;
+    let above = j / 2 * g.stride;
+    let at = j * g.starts;
+    let mut near = [0u64; STRIP_ROOM];
+    let mut held = Part { count: 0, until: 0 };
     let mut so_far = before;
     let mut i: u64 = 0;
     while i < g.starts {
@@ -95,18 +71,9 @@ fn row(
             put_flag(new, at + i, 1);
             i += 1;
         } else {
-            held = part_at(sense, strip, g, g.t, i, held, &mut near);
-            so_far = look(
-                sense,
-                &near[..held.count],
-                new,
-                at + i,
-                g,
-                i * g.t,
-                y,
-                best,
-                so_far,
-            );
+            held = part_at(strip, g, g.t, i, held, &mut near);
+            let far = along_strip(&near[..held.count], g, g.t, i * g.t);
+            so_far = weigh(sense, far, new, at + i, so_far);
             i += 1;
         }
     }
@@ -114,69 +81,31 @@ fn row(
 }
 
 // The starts of row j.
-fn row_at(
-    sense: Sense,
-    rects: &[u64],
-    flags: &[u8],
-    side: u64,
-    new: &mut [u8],
-    g: Grid,
-    j: u64,
-    best: u64,
-    before: Far,
-) -> Far
-    requires { ⌜ Drawn (now rects) ⌝ }
-    requires { ⌜ Sized g ⌝ }
-    requires { ⌜ side ≤ 1048577 ⌝ }
-    requires { ⌜ j < g .starts ⌝ }
-    requires { ⌜ before .kept ≤ 1099513724929 ⌝ }
-    requires { ⌜ NoBetter sense best (before .bound .area) ⌝ }
-    requires { ⌜ HarmlessRow sense (rectsOf (now rects)) (g .n) (g .w) (g .t) (now flags) side j best ⌝ }
-    ensures { λ r. ⌜ r ≡ farInRow sense best (farArea sense (rectsOf (now (rects .entry))) (g .n) (g .w) (g .t)) (g .t) (j * g .t) (g .starts) before ⌝ }
-    ensures { λ r. ⌜ now (new .exit) ≡ flagsInRow sense best (farArea sense (rectsOf (now (rects .entry))) (g .n) (g .w) (g .t)) (g .t) (j * g .t) (j * g .starts) (g .starts) (now (new .entry)) ⌝ }
+fn row_at(rects: &[u64], flags: &[u8], new: &mut [u8], g: Grid, j: u64, before: Level) -> Level
+    requires { ⌜ RowPassable (now rects) (now flags) g j (before .named .area) ⌝ }
+    requires { ⌜ Weighable (g .sense) levelRoom before ⌝ }
+    ensures { λ r. ⌜ r ≡ farInRow (g .sense) (λ x. farArea (g .sense) (rectsOf (now (rects .entry))) (g .n) (g .w) (g .t) x (j * g .t)) (g .t) (g .starts) before ⌝ }
+    ensures { λ r. ⌜ now (new .exit) ≡ flagsInRow (g .sense) (before .named .area) (λ x. farArea (g .sense) (rectsOf (now (rects .entry))) (g .n) (g .w) (g .t) x (j * g .t)) (g .t) (j * g .starts) (g .starts) (now (new .entry)) ⌝ }
 {
-    let y = j * g.t;
-    let mut strip = [0u64; 4096];
-    let len = strip_at(sense, rects, g, g.t, y, &mut strip);
-    row(
-        sense,
-        &strip[..len],
-        flags,
-        j / 2 * side,
-        new,
-        j * g.starts,
-        g,
-        y,
-        best,
-        before,
-    )
+    let mut strip = [0u64; STRIP_ROOM];
+    let len = strip_at(rects, g, g.t, j * g.t, &mut strip);
+    row(&strip[..len], flags, new, g, j, before)
 }
 
-// All rows.
-pub(crate) fn rows(
-    sense: Sense,
-    rects: &[u64],
-    flags: &[u8],
-    side: u64,
-    new: &mut [u8],
-    g: Grid,
-    best: Spot,
-) -> Far
-    requires { ⌜ Drawn (now rects) ⌝ }
-    requires { ⌜ Sized g ⌝ }
-    requires { ⌜ side ≤ 1048577 ⌝ }
-    requires { ⌜ Harmless sense (rectsOf (now rects)) (g .n) (g .w) (g .t) (now flags) side (best .area) ⌝ }
-    ensures { λ r. ⌜ r ≡ farInRows sense (best .area) (farArea sense (rectsOf (now (rects .entry))) (g .n) (g .w) (g .t)) (g .t) (g .starts) (g .starts) (record { bound = best; kept = 0 }) ⌝ }
-    ensures { λ r. ⌜ now (new .exit) ≡ flagsInRows sense (best .area) (farArea sense (rectsOf (now (rects .entry))) (g .n) (g .w) (g .t)) (g .t) (g .starts) (g .starts) (now (new .entry)) ⌝ }
+// All rows, from the level's window on: the limit is no worse than its area.
+pub(crate) fn rows(rects: &[u64], flags: &[u8], new: &mut [u8], g: Grid, best: Spot) -> Level
+    requires { ⌜ Passable (now rects) (now flags) g (best .area) ⌝ }
+    ensures { λ r. ⌜ r ≡ farInRows (g .sense) (farArea (g .sense) (rectsOf (now (rects .entry))) (g .n) (g .w) (g .t)) (g .t) (g .starts) (g .starts) (record { named = best; limit = best .area; kept = 0 }) ⌝ }
+    ensures { λ r. ⌜ now (new .exit) ≡ flagsInRows (g .sense) (best .area) (farArea (g .sense) (rectsOf (now (rects .entry))) (g .n) (g .w) (g .t)) (g .t) (g .starts) (g .starts) (now (new .entry)) ⌝ }
 {
-    let area = best.area;
-    let mut so_far = Far {
-        bound: best,
+    let mut so_far = Level {
+        named: best,
+        limit: best.area,
         kept: 0,
     };
     let mut j: u64 = 0;
     while j < g.starts {
-        so_far = row_at(sense, rects, flags, side, new, g, j, area, so_far);
+        so_far = row_at(rects, flags, new, g, j, so_far);
         j += 1;
     }
     so_far

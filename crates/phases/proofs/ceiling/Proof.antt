@@ -10,11 +10,18 @@ use Rattle.phases.proofs.ceiling.Tie as tie
 quick-run-requires : tie.Need-quick-run-requires
 quick-run-requires c κs =
     let r = c .before .before .before .before .pre in
-    (r .drawn, ((r .some-window, r .window-fits, r .small, r .accurate), ap (λ (e : Extremes). e .greatest) (c .before .exact-run .ensures)))
+    record {
+      drawn = r .drawn;
+      some-window = r .some-window;
+      window-fits = r .window-fits;
+      small = r .small;
+      accurate = r .accurate;
+      extreme-is = ap (λ (e : Extremes). e .greatest) (c .before .exact-run .ensures);
+    }
 
 returns : tie.Need-returns
 unfolding answerOf
-returns c = ap (λ (q : Quick). q .last .far) (c .quick-run .ensures)
+returns c = ap (λ (q : Quick). q .last .limit) (c .quick-run .ensures)
 
 pub ceiling-spec : {M : Type 1} → statement M
 ceiling-spec = tie.close (tie.spec (λ c κs. search needs) quick-run-requires returns)

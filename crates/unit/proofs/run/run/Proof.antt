@@ -9,7 +9,14 @@ use Rattle.unit.proofs.run.run.Tie as tie
 quick-run-requires : tie.Need-quick-run-requires
 quick-run-requires c κs =
     let r = c .before .before .before .before .before .before .pre in
-    (r .drawn, ((r .some-window, r .window-fits, r .small, r .accurate), ap (λ (e : Extremes). e .greatest) (c .before .exact-run .ensures)))
+    record {
+      drawn = r .drawn;
+      some-window = r .some-window;
+      window-fits = r .window-fits;
+      small = r .small;
+      accurate = r .accurate;
+      extreme-is = ap (λ (e : Extremes). e .greatest) (c .before .exact-run .ensures);
+    }
 
 density-requires : tie.Need-density-requires
 density-requires c κs =

@@ -7,23 +7,20 @@ use Rattle.zoom.proofs.bounds.weigh.Tie as tie
 
 returns : tie.Need-returns
 returns c =
-    let at-test = c .before .before .before .before .before .before .before in
-    let start = at-test .before .before in
-    let a = start .args in
+    let a = c .before .before .before .before .before .before .before .before .before .before .args in
+    let limit = c .before .better-area in
     let w =
-    weighs-more (a .sense) (a .best) (a .far) (a .at) (a .before) (a .new .now) _ (c .before .better-of .result)
-    (sym (at-test .is-better .ensures) ∙ c .before .before .before .before .before .before .if1 .taken) (c .before .better-of .ensures)
+    weighs-more (a .sense) (a .far) (a .at) (a .before) (a .new .now) _ (limit .result) (sym (c .before .before .before .before .before .before .before .is-better .ensures) ∙ c .before .before .before .before .before .before .if1 .taken) (limit .ensures)
     (c .before .before .before .before .put-flag .ensures) in
     (w .search, w .flags)
 
 returns-2 : tie.Need-returns-2
 returns-2 c =
-    let at-test = c .before .before .before .before .before in
-    let start = at-test .before .before in
+    let start = c .before .before .before .before .before .before .before .before in
     let a = start .args in
     let w =
-    weighs-nothing (a .sense) (a .best) (a .far) (a .at) (a .before) (a .new .now) _
-    (sym (at-test .is-better .ensures) ∙ c .before .before .before .before .if1 .left) (start .pre .1) (c .before .before .put-flag2 .ensures) in
+    weighs-nothing (a .sense) (a .far) (a .at) (a .before) (a .new .now) _ (sym (c .before .before .before .before .before .is-better .ensures) ∙ c .before .before .before .before .if1 .left) (start .pre .stands)
+    (c .before .before .put-flag2 .ensures) in
     (w .search, w .flags)
 
 pub weigh-spec : {M : Type 1} → statement M

@@ -8,12 +8,12 @@ use Rattle.zoom.proofs.levels.is_met.Tie as tie
 mul-result : tie.Need-mul-result
 mul-result c =
     let start = c .before in
-    omega (arith, c .high-end .ensures, ends-small (start .args .sense) (start .args .level) (start .pre .1) (start .pre .2) .high)
+    omega (arith, c .high-end .ensures, ends-small (start .args .sense) (start .args .level) (start .pre .small) .high)
 
 mul-result-3 : tie.Need-mul-result-3
 mul-result-3 c =
     let start = c .before .before in
-    rw (c .low-end .ensures) (record { fits = omega (arith, scaled-small (start .args .e) _ (start .pre .0) (ends-small (start .args .sense) (start .args .level) (start .pre .1) (start .pre .2) .low)) })
+    rw (c .low-end .ensures) (record { fits = omega (arith, scaled-small (start .args .e) _ (start .pre .accurate) (ends-small (start .args .sense) (start .args .level) (start .pre .small) .low)) })
 
 returns : tie.Need-returns
 returns c = rw (c .low-end .ensures, c .before .high-end .ensures)

@@ -4,7 +4,7 @@ use Rattle.zoom.proofs.parts.part_at.Statement.{statement}
 use Rattle.zoom.proofs.parts.part_at.Tie as tie
 
 returns : tie.Need-returns
-returns c = (c .before .before .before .before .pre .1 .1, c .if1 .taken)
+returns c = (c .before .before .before .before .pre .1, c .if1 .taken)
 
 pub part-at-spec : {M : Type 1} → statement M
 part-at-spec = tie.close (tie.spec returns (λ c κs. search needs) (λ c. search needs) (λ c. search needs))

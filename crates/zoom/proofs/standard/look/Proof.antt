@@ -1,6 +1,6 @@
 -- `zoom::standard::look` meets its contract. Assumes nothing.
 use borrow.Author.Needs.{needs}
-use Rattle.zoom.specs.Grid.{alongStrip}
+use Rattle.zoom.specs.Strips.{windowAlong}
 use Rattle.zoom.proofs.Passes.{looked-at}
 use Rattle.zoom.proofs.standard.look.Statement.{statement}
 use Rattle.zoom.proofs.standard.look.Tie as tie
@@ -8,7 +8,7 @@ use Rattle.zoom.proofs.standard.look.Tie as tie
 returns : tie.Need-returns
 returns c =
     let a = c .before .before .before .args in
-    looked-at (a .sense) (alongStrip (a .sense) (a .near .now) (a .g .n) (a .g .w) 0) (a .x) (a .y) (c .before .along-strip .result) (a .best)
+    looked-at (a .g .sense) (windowAlong (a .g .sense) (a .near .now) (a .g .n) (a .g .w)) (a .x) (a .y) (c .before .along-strip .result) (a .best)
     (c .better-of .result) (c .before .along-strip .ensures) (c .better-of .ensures)
 
 pub look-spec : {M : Type 1} → statement M
