@@ -17,7 +17,7 @@ use Rattle.jobfile.proofs.Tables.{length-table, rects-of-table}
 use Rattle.jobfile.proofs.Files.{acceptance}
 use Rattle.jobfile.proofs.Accepted.{AcceptedFacts, accepted-facts, padded-front, table-front, amount-room}
 use Rattle.unit.specs.Answering.{answerOf, textOf}
-use Rattle.unit.specs.Guarantee.{Promised}
+use Rattle.unit.specs.Guarantee.{FilePromise}
 use Rattle.unit.specs.Ready.{Ready, jobStanding, Readable}
 use Rattle.unit.specs.Rendering.{answerRoom, WrittenIn, Rendering}
 use Rattle.unit.proofs.Demand.{Runs, promises-kept}
@@ -40,7 +40,7 @@ facts-run st f =
     }
 
 -- what is promised of every file
-pub promised : (file : List ℕ) → Promised file
+pub promised : (file : List ℕ) → FilePromise file
 promised file =
     let k = acceptance unitLimits file in
     record { meaning = k; demand-3 = λ st a. promises-kept st (facts-run st (accepted-facts file st (k .accepted-if st a))) }

@@ -6,15 +6,22 @@ use mathlib.Core.List.{List, [], _∷_}
 use native.Mathlib.Nat.{mul-le-mul-right}
 use native.Mathlib.Omega.{arith}
 use lib.ListN.{getD}
+use borrow.Author.Tests.{ltb-false}
 use Rattle.geometry.specs.declared.Rect.{Rect}
+use Rattle.geometry.specs.declared.Spot.{Spot}
 use Rattle.geometry.specs.declared.Sense.{Sense}
 use Rattle.geometry.specs.declared.Sense.the-variants.{Greatest, Least}
 use Rattle.extremes.specs.Exact.{extreme, exactRun}
 use Rattle.extremes.proofs.Promises.{extreme-over-all}
 use Rattle.zoom.specs.declared.End.{End}
 use Rattle.zoom.specs.declared.End.the-variants.{Met, Stopped, Exact}
-use Rattle.zoom.specs.Run.{endNumber, quickRun}
-use Rattle.zoom.proofs.Bracket.{Accurate, quick-run-promises, levels-at-most}
+use Rattle.zoom.specs.declared.Quick.{Quick}
+use Rattle.zoom.specs.Run.{lastLevel, levelStep, endNumber, quickRun}
+use Rattle.zoom.specs.Grid.{AtStart}
+use Rattle.zoom.proofs.Steps.{step-positive}
+use Rattle.zoom.proofs.Starts.{start-fits, fits-start}
+use Rattle.zoom.proofs.Bracket.{Placed, Promised, Accurate, quick-run-promises, levels-at-most}
+use Rattle.zoom.proofs.LastLevel.{last-level, floor-start, floor-best}
 use Rattle.fill.specs.declared.Plan.{Plan}
 use Rattle.fill.specs.declared.Bound.{Bound}
 use Rattle.fill.specs.declared.Bound.the-variants.{Over, Under}
@@ -25,10 +32,11 @@ use Rattle.fill.specs.Judge.{numberAt, boundNumber, verdictNumbers, verdictOf}
 use Rattle.fill.specs.Placement.{Placement}
 use Rattle.fill.proofs.Promise.{Dissected, safe-keeps, broken-breaks}
 use Rattle.fill.proofs.Placing.{placement}
+use Rattle.jobfile.specs.declared.Head.{Head}
 use Rattle.jobfile.specs.Forms.{tileSide, tilesAcross}
 use Rattle.jobfile.specs.Faults.{Standing}
 use Rattle.unit.specs.Answering.{planOf, answerOf}
-use Rattle.unit.specs.Promise.{RealWindow, Earliest, distance, ExactPromise, QuickPromise, FillPromise, Promises}
+use Rattle.unit.specs.Promise.{RealWindow, Earliest, distance, StartOf, EndsWith, ExactPromise, QuickPromise, FillPromise, Promises}
 
 -- what an accepted head and its amounts say: tiles fit the window and the layout, and no amount exceeds its tile's fillable area
 pub record Runs (st : Standing) : Type 0 where
@@ -44,10 +52,16 @@ pub record Runs (st : Standing) : Type 0 where
 
 -- ---- a number tells the case
 
-number-met : (e : End) → endNumber e ≡ 0 → e ≡ Met
-number-met Met h = refl
-number-met Stopped h = absurd (omega (arith, h))
-number-met Exact h = absurd (omega (arith, h))
+number-end : (e f : End) → endNumber e ≡ endNumber f → e ≡ f
+number-end Met Met h = refl
+number-end Met Stopped h = absurd (omega (arith, h))
+number-end Met Exact h = absurd (omega (arith, h))
+number-end Stopped Met h = absurd (omega (arith, h))
+number-end Stopped Stopped h = refl
+number-end Stopped Exact h = absurd (omega (arith, h))
+number-end Exact Met h = absurd (omega (arith, h))
+number-end Exact Stopped h = absurd (omega (arith, h))
+number-end Exact Exact h = refl
 
 number-safe : (v : Verdict) → verdictNumbers v ≡ 0 ∷ [] → v ≡ Safe
 number-safe Safe h = refl
@@ -100,20 +114,70 @@ exact-kept st =
 midpoint : (e m low high : ℕ) → Accurate e m low high → 1000 * distance (low + high) (2 * m) ≤ 2 * e * m
 midpoint e m low high a = omega (arith, a .above, a .below)
 
+-- a window at a start, as the code counts them
+start-of : (st : Standing) (j : ℕ) (b : Spot) → 1 ≤ levelStep (st .head .window) j →
+    AtStart (st .shapes) (st .head .size) (st .head .window) (levelStep (st .head .window) j) b → StartOf st j (b .x) (b .y)
+start-of st j b p a =
+    let t = levelStep (st .head .window) j in
+    let x = ap (λ (c : Spot). c .x) (a .is) in
+    let y = ap (λ (c : Spot). c .y) (a .is) in
+    record {
+      column = a .column;
+      row = a .row;
+      across = x;
+      down = y;
+      position = record {
+        across = omega (arith, x, start-fits (st .head .size) (st .head .window) t (a .column) p (a .across));
+        down = omega (arith, y, start-fits (st .head .size) (st .head .window) t (a .row) p (a .down));
+      };
+    }
+
 quick-kept : (st : Standing) → Runs st → let h = st .head in
     QuickPromise st (quickRun Greatest (st .shapes) (h .size) (h .window) (h .accuracy) (h .levels)) (extreme Greatest (st .shapes) (h .size) (h .window) .area)
 quick-kept st r =
-    let h = st .head in
-    let q = quickRun Greatest (st .shapes) (h .size) (h .window) (h .accuracy) (h .levels) in
-    let p = quick-run-promises Greatest (st .shapes) (h .size) (h .window) (h .accuracy) (h .levels) (r .some-window) (r .window-fits) in
-    let w = p .brackets .named in
     record {
-      floor = record { position = record { across = w .across; down = w .down }; area = w .area };
+      floor = record { position = record { across = named .across; down = named .down }; area = named .area };
       floor-below = p .brackets .low;
       ceiling-above = p .brackets .high;
-      met = λ e. midpoint (h .accuracy) (extreme Greatest (st .shapes) (h .size) (h .window) .area) (q .last .named .area) (q .last .limit) (p .accurate (number-met (q .end) e));
-      levels-done = levels-at-most Greatest (st .shapes) (h .size) (h .window) (h .accuracy) (h .levels) (r .some-level);
+      met = λ e. midpoint (h .accuracy) (extreme Greatest (st .shapes) n w .area) (q .last .named .area) (q .last .limit) (p .accurate (number-end (q .end) Met e));
+      levels-done = levels-at-most Greatest (st .shapes) n w (h .accuracy) (h .levels) (r .some-level);
+      floor-start = λ j k. start-of st j (q .last .named) (step j k) (start j k .1);
+      floor-largest = λ j k x y a.
+          rw (a .across, a .down)
+          (ltb-false _ _
+          (floor-best Greatest (st .shapes) n w (h .accuracy) (h .levels) (r .some-window) (r .window-fits) j (k .done) (other j k) (a .column) (a .row)
+          (fits-start n w (levelStep w j) (a .column) (step j k) (omega (arith, a .across, a .position .across)))
+          (fits-start n w (levelStep w j) (a .row) (step j k) (omega (arith, a .down, a .position .down)))));
+      exact-ends = λ e.
+          last-level Greatest (st .shapes) n w (h .accuracy) (h .levels) (r .some-window) (r .window-fits) .exact (number-end (q .end) Exact e);
     }
+  where
+    h : Head
+    h = st .head
+
+    n : ℕ
+    n = st .head .size
+
+    w : ℕ
+    w = st .head .window
+
+    q : Quick
+    q = quickRun Greatest (st .shapes) (st .head .size) (st .head .window) (st .head .accuracy) (st .head .levels)
+
+    p : Promised Greatest (st .shapes) (st .head .size) (st .head .window) (st .head .accuracy) q
+    p = quick-run-promises Greatest (st .shapes) n w (h .accuracy) (h .levels) (r .some-window) (r .window-fits)
+
+    named : Placed (st .shapes) (st .head .size) (st .head .window) (q .last .named)
+    named = p .brackets .named
+
+    other : (j : ℕ) → EndsWith q j → q .end ≡ Exact → ⊥
+    other j k e = k .not-exact (ap endNumber e)
+
+    start : (j : ℕ) → EndsWith q j → (j ≤ lastLevel (st .head .window)) × AtStart (st .shapes) (st .head .size) (st .head .window) (levelStep (st .head .window) j) (q .last .named)
+    start j k = floor-start Greatest (st .shapes) n w (h .accuracy) (h .levels) (r .some-window) (r .window-fits) j (k .done) (other j k)
+
+    step : (j : ℕ) → EndsWith q j → 1 ≤ levelStep (st .head .window) j
+    step j k = step-positive w j (r .some-window) (start j k .0)
 
 -- ---- the fill
 

@@ -18,7 +18,7 @@ use Rattle.unit.specs.Whole.{replyFor, bufferFor, printedFor}
 use Rattle.unit.specs.Promise.{Promises}
 
 -- what is promised of every file: what accepted and refused mean, and demand 3 for an accepted one
-pub record Promised (file : List ℕ) : Type 0 where
+pub record FilePromise (file : List ℕ) : Type 0 where
   pub meaning : Acceptance unitLimits file
   pub demand-3 : (st : Standing) → AcceptedFile unitLimits file st → Promises st (answerOf st)
 
@@ -28,9 +28,9 @@ pub record Guarantee (file before : List ℕ) (r : Reply) (after : List ℕ) : T
   pub buffer : after ≡ bufferFor file before
   -- the answer in the buffer is what the program prints for the file
   pub printed : (n : ℕ) → r ≡ Accepted n → take n after ≡ printedFor file
-  pub promised : Promised file
+  pub promised : FilePromise file
 
 -- the program was given a file: what it prints stands at the front of its own buffer, in n bytes
 pub record Reported (file before : List ℕ) (n : ℕ) (after : List ℕ) : Type 0 where
   pub printed : Front before (printedFor file) after n
-  pub promised : Promised file
+  pub promised : FilePromise file

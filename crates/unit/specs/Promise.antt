@@ -1,6 +1,6 @@
 -- Demand 3: what the answer to an accepted job promises, whatever its shapes and numbers. An answer that is an enum is spoken of by the
 -- paper's number and values. `Guarantee` in specs/Guarantee.antt makes it part of the unit's contracts.
-use Prim.Native.Nat.{ℕ, _+_, _-_, _*_, _≤_, _<_}
+use Prim.Native.Nat.{ℕ, suc, _+_, _-_, _*_, _≤_, _<_}
 use mathlib.Core.Path.{_≡_}
 use mathlib.Core.Bool.{Bool}
 use mathlib.Core.List.{List, [], _∷_}
@@ -10,7 +10,7 @@ use Rattle.geometry.specs.declared.Spot.{Spot}
 use Rattle.extremes.specs.declared.Extremes.{Extremes}
 use Rattle.extremes.specs.Exact.{windowArea, Position}
 use Rattle.zoom.specs.declared.Quick.{Quick}
-use Rattle.zoom.specs.Run.{endNumber}
+use Rattle.zoom.specs.Run.{levelStep, endNumber}
 use Rattle.fill.specs.declared.Bound.{Bound}
 use Rattle.fill.specs.declared.Verdict.{Verdict}
 use Rattle.fill.specs.Judge.{boundNumber, verdictNumbers}
@@ -59,14 +59,31 @@ pub record ExactPromise (st : Standing) (e : Extremes) : Type 0 where
   pub none-less : (x y : ℕ) → PositionOf st x y → e .least .area ≤ areaAt st x y
   pub least-first : Earliest st (e .least)
 
--- the quick run, beside the exact run's M: its floor F is the area of the window it names, F ≤ M ≤ C, "met" for accuracy E bounds the
--- midpoint, 1000 × |F + C − 2M| ≤ 2 × E × M, and no more levels were done than are allowed
+-- (x, y) is a start of level j: on each axis a multiple of the level's step, up to N − W
+pub record StartOf (st : Standing) (j x y : ℕ) : Type 0 where
+  pub column : ℕ
+  pub row : ℕ
+  pub across : x ≡ column * levelStep (st .head .window) j
+  pub down : y ≡ row * levelStep (st .head .window) j
+  pub position : PositionOf st x y
+
+-- the run ended with level j, and not with the exact search
+pub record EndsWith (q : Quick) (j : ℕ) : Type 0 where
+  pub done : q .done ≡ suc j
+  pub not-exact : endNumber (q .end) ≡ 2 → ⊥
+
+-- the quick run, beside the exact run's M. Its floor F is the area of the window it names, its ceiling is C, and F ≤ M ≤ C; "met" for
+-- accuracy E bounds the midpoint, 1000 × |F + C − 2M| ≤ 2 × E × M; no more levels were done than are allowed; F is the largest standard area
+-- of the level that the run ended with, at one of its starts, and after "exact" F, C and M are one number
 pub record QuickPromise (st : Standing) (q : Quick) (m : ℕ) : Type 0 where
   pub floor : RealWindow st (q .last .named)
   pub floor-below : q .last .named .area ≤ m
   pub ceiling-above : m ≤ q .last .limit
   pub met : endNumber (q .end) ≡ 0 → 1000 * distance (q .last .named .area + q .last .limit) (2 * m) ≤ 2 * st .head .accuracy * m
   pub levels-done : q .done ≤ st .head .levels
+  pub floor-start : (j : ℕ) → EndsWith q j → StartOf st j (q .last .named .x) (q .last .named .y)
+  pub floor-largest : (j : ℕ) → EndsWith q j → (x y : ℕ) → StartOf st j x y → areaAt st x y ≤ q .last .named .area
+  pub exact-ends : endNumber (q .end) ≡ 2 → (q .last .named .area ≡ m) × (q .last .limit ≡ m)
 
 -- the fill, whichever eligible unit squares it takes: after "safe" every position keeps both bounds, on the tile grid or off it; after
 -- "broken" the named window is a position and breaks the bound named; and there is at least one placement

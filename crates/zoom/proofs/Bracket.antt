@@ -188,7 +188,7 @@ floor-stays s rs n w i (suc j) h = go (le-or-lt (suc j) i) (floor-stays s rs n w
     go (inr k) r = no-better-trans s (F i) (F j) (F (suc j)) (r (omega arith)) (named-stays s rs n w j)
 
 module _ (s : Sense) (rs : List Rect) (n w : ℕ) (p : 1 ≤ w) where
-  named-start : (j : ℕ) → j ≤ lastLevel w → AtStart rs n w (levelStep w j) (levelAt s rs n w j .named)
+  pub named-start : (j : ℕ) → j ≤ lastLevel w → AtStart rs n w (levelStep w j) (levelAt s rs n w j .named)
   unfolding levelAt
   named-start zero h = level-at-start s rs n w (levelStep w 0) _ (first-start rs n w)
   named-start (suc j) h = level-at-start s rs n w (levelStep w (suc j)) _ (next-start rs n w j _ p h (named-start j (omega arith)))
