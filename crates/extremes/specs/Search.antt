@@ -1,10 +1,9 @@
 -- What the code of the exact run does in place of trying every position. A buyer need not read it: proofs/Searches.antt shows that
 -- `searched` is `extreme`.
-use Prim.Native.Nat.{ℕ, zero, suc, _+_, _-_, _≤_}
+use Prim.Native.Nat.{ℕ, zero, suc, _+_, _-_}
 use mathlib.Core.Bool.{Bool, true, false, _&&_, _||_}
 use mathlib.Core.List.{List, [], _∷_, _++_}
 use lib.Dec.{leb, ltb, eqb}
-use lib.ListN.{getD}
 use Rattle.geometry.specs.declared.Rect.{Rect}
 use Rattle.geometry.specs.declared.Spot.{Spot}
 use Rattle.geometry.specs.declared.Sense.{Sense}
@@ -52,10 +51,6 @@ withSides near far last w (r ∷ rs) l = withSides near far last w rs (withEnd l
 -- the positions that are tried on an axis: 0, the last one, and where the window meets a rectangle
 unfoldable pub candidates : Sense → (axis : ℕ) → List Rect → (n w : ℕ) → List ℕ
 candidates s axis rs n w = withSides (nearSide s axis) (farSide s axis) (n - w) w rs (withPosition (n - w) (n - w) (0 ∷ []))
-
--- what 64 bits ask of a list of positions: none past 2^20
-pub record SmallList (l : List ℕ) : Type 0 where
-  pub small : (i : ℕ) → getD l i 0 ≤ 1048576
 
 -- ---- the search among them, in any order
 

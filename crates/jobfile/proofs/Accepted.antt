@@ -10,12 +10,11 @@ use lib.Dec.{leb, ltb, lit≤}
 use lib.ListN.{length, getD, take, replicate, List·getD-eq-default}
 use lib.Seq.{take-at}
 use borrow.Author.Tests.{ltb-true, leb-true}
+use Rattle.laws.proofs.Tests.{le-or-lt, both}
 use Rattle.geometry.specs.declared.Rect.{Rect}
 use Rattle.geometry.specs.Layout.{Disjoint, Drawn}
-use Rattle.geometry.proofs.Counting.{le-or-lt}
 use Rattle.fill.specs.Eligible.{tile, fillableArea}
 use Rattle.fill.specs.Judge.{numberAt}
-use Rattle.spelling.proofs.Numerals.{both}
 use Rattle.fill.proofs.Loads.{tile-fillable}
 use Rattle.jobfile.specs.declared.Head.{Head}
 use Rattle.jobfile.specs.declared.Form.{Form}

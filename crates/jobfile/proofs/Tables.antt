@@ -9,10 +9,10 @@ use native.Mathlib.Nat.{le-trans}
 use lib.Dec.{lit≤}
 use lib.ListN.{length, getD, take, drop, replicate, length-append}
 use lib.Seq.{take-at, drop-at, drop-drop, sets-eq, length-sets, length-take-le}
+use Rattle.laws.proofs.Tests.{both}
 use Rattle.geometry.specs.declared.Rect.{Rect}
 use Rattle.geometry.specs.Layout.{rectsOf, Disjoint, Drawn}
 use Rattle.geometry.proofs.Tables.{rects-more}
-use Rattle.spelling.proofs.Numerals.{both}
 use Rattle.jobfile.specs.declared.Head.{Head}
 use Rattle.jobfile.specs.Limits.{mostSide}
 use Rattle.jobfile.specs.Forms.{within, rectInRange}

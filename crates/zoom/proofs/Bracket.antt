@@ -9,6 +9,7 @@ use native.Mathlib.Nat.{zero-mul, mul-le-mul-left}
 use native.Mathlib.Omega.{arith}
 use borrow.Author.Tests.{ltb-false, leb-true, leb-false, le-leb}
 use lib.Dec.{leb}
+use Rattle.laws.proofs.Tests.{le-or-lt}
 use Rattle.geometry.specs.declared.Rect.{Rect}
 use Rattle.geometry.specs.declared.Spot.{Spot}
 use Rattle.geometry.specs.declared.Sense.{Sense}
@@ -16,7 +17,7 @@ use Rattle.geometry.specs.declared.Sense.the-variants.{Greatest, Least}
 use Rattle.geometry.specs.Extreme.{better, spotAt, replaced, bestInRows}
 use Rattle.geometry.specs.Count.{sum, one-if}
 use Rattle.geometry.specs.Layout.{covered, coveredArea, windowBox}
-use Rattle.geometry.proofs.Counting.{le-or-lt, sum-cong, sum-zero, box-const}
+use Rattle.geometry.proofs.Counting.{sum-cong, sum-zero, box-const}
 use Rattle.geometry.proofs.Totals.{small-product}
 use Rattle.geometry.proofs.Overlaps.{area-small}
 use Rattle.geometry.proofs.Extremes.{better-self, step-better, step-skip}
