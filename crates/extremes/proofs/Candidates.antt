@@ -9,13 +9,13 @@ use native.Mathlib.Decide.{ℕ-discrete}
 use native.Mathlib.Omega.{arith}
 use lib.Dec.{eqb}
 use borrow.Author.Tests.{eq-eqb, ne-eqb}
+use Rattle.laws.proofs.Tests.{le-or-lt}
 use Rattle.geometry.specs.declared.Rect.{Rect}
 use Rattle.geometry.specs.declared.Sense.{Sense}
 use Rattle.geometry.specs.declared.Sense.the-variants.{Greatest, Least}
 use Rattle.geometry.specs.Count.{one-if}
 use Rattle.geometry.specs.Layout.{windowBox, Disjoint}
 use Rattle.geometry.specs.Overlaps.{common, overlapSum}
-use Rattle.geometry.proofs.Counting.{le-or-lt}
 use Rattle.geometry.proofs.Overlaps.{overlap-is-area}
 use Rattle.extremes.specs.Exact.{windowArea}
 use Rattle.extremes.specs.Search.{side, nearSide, farSide}

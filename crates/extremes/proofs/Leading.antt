@@ -8,6 +8,7 @@ use native.Mathlib.Nat.{le-of-lt}
 use native.Mathlib.Omega.{arith}
 use lib.Dec.{ltb, eqb}
 use borrow.Author.Tests.{ltb-true, ltb-false, eqb-true, eqb-false}
+use Rattle.laws.proofs.Tests.{true-false}
 use Rattle.geometry.specs.declared.Spot.{Spot}
 use Rattle.geometry.specs.declared.Sense.{Sense}
 use Rattle.geometry.specs.Extreme.{better, spotAt}
@@ -26,9 +27,6 @@ ahead-trans s a b c (inl h) (inl k) = inl (better-trans s _ _ _ h k)
 ahead-trans s a b c (inl h) (inr k) = inl (rw (← k .0) h)
 ahead-trans s a b c (inr h) (inl k) = inl (rw (h .0) k)
 ahead-trans s a b c (inr h) (inr k) = inr (h .0 ∙ k .0, no-later-trans _ _ _ _ _ _ (h .1) (k .1))
-
-true-false : (t : Bool) → t ≡ true → t ≡ false → ⊥
-true-false t h k = let z : _≡_ {A = ℕ} 0 1 = cc in omega arith
 
 -- ---- one window more
 

@@ -12,6 +12,7 @@ use borrow.Author.Tests.{lt-ltb, le-ltb, eq-eqb, ne-eqb}
 use Rattle.geometry.specs.declared.Spot.{Spot}
 use Rattle.geometry.specs.declared.Sense.{Sense}
 use Rattle.geometry.specs.declared.Rect.{Rect}
+use Rattle.geometry.specs.Sizes.{widest, SmallList}
 use Rattle.geometry.specs.Layout.{rectsOf, coveredArea, Drawn}
 use Rattle.buffers.specs.Written.{Front}
 use Rattle.geometry.specs.Overlaps.{stripOf, stripSum, StripSmall}
@@ -19,7 +20,7 @@ use Rattle.geometry.specs.Extreme.{better, spotAt}
 use Rattle.geometry.proofs.Overlaps.{strip-is-area}
 use Rattle.geometry.proofs.Strips.{strip-small}
 use Rattle.extremes.specs.Exact.{windowArea}
-use Rattle.extremes.specs.Search.{earlier, leads, leading, passed, leadingInRow, leadingInRows, SmallList}
+use Rattle.extremes.specs.Search.{earlier, leads, leading, passed, leadingInRow, leadingInRows}
 use Rattle.buffers.proofs.Fronts.{front-take}
 
 -- ---- which of two windows goes first
@@ -73,7 +74,7 @@ passed-cong step other (p ∷ l) b h = passed-cong step other l (step p b) h ∙
 
 -- ---- positions and strips are small
 
-pub small-at : (l : List ℕ) (i : ℕ) → SmallList l → getD l i 0 ≤ 1048576
+pub small-at : (l : List ℕ) (i : ℕ) → SmallList l → getD l i 0 ≤ widest
 small-at l i h = h .small i
 
 -- the strip at the front of a buffer

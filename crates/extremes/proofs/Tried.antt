@@ -9,10 +9,11 @@ use native.Mathlib.Omega.{arith}
 use lib.Dec.{leb, eqb}
 use lib.ListN.{getD, take}
 use borrow.Author.Tests.{le-leb, leb-true, eqb-true}
+use Rattle.geometry.specs.Sizes.{widest, SmallList}
 use Rattle.geometry.specs.declared.Rect.{Rect}
 use Rattle.geometry.specs.declared.Sense.{Sense}
 use Rattle.buffers.specs.Written.{Front}
-use Rattle.extremes.specs.Search.{SmallList, side, nearSide, farSide, listed, withPosition, withEnd, withSides, candidates}
+use Rattle.extremes.specs.Search.{side, nearSide, farSide, listed, withPosition, withEnd, withSides, candidates}
 use Rattle.buffers.proofs.Fronts.{front-take}
 use Rattle.extremes.proofs.Candidates.{Meets, low-edge, high-edge, further, Candidate, at-start, at-end, at-side}
 
@@ -124,6 +125,6 @@ module _ (s : Sense) (axis : ℕ) (rs : List Rect) (n w : ℕ) where
       (position-within (n - w) (n - w) (0 ∷ []) (λ q m. omega (arith, List·Memᴰ·eq-of-singleton m)))
 
   -- so 64 bits hold a listed position with the window's side added
-  pub candidates-small : (before after : List ℕ) (r : ℕ) → n ≤ 1048576 → Front before (candidates s axis rs n w) after r → SmallList (take r after)
+  pub candidates-small : (before after : List ℕ) (r : ℕ) → n ≤ widest → Front before (candidates s axis rs n w) after r → SmallList (take r after)
   candidates-small before after r h f =
       rw (front-take before _ after r f) (record { small = λ i. le-trans (at-most (n - w) _ candidates-within i) (omega arith) })

@@ -1,15 +1,18 @@
 -- What the code of the exact run does in place of trying every position. A buyer need not read it: proofs/Searches.antt shows that
 -- `searched` is `extreme`.
-use Prim.Native.Nat.{ℕ, zero, suc, _+_, _-_, _≤_}
+use Prim.Native.Nat.{ℕ, zero, suc, _+_, _-_, _*_, _≤_, _<_}
 use mathlib.Core.Bool.{Bool, true, false, _&&_, _||_}
 use mathlib.Core.List.{List, [], _∷_, _++_}
 use lib.Dec.{leb, ltb, eqb}
-use lib.ListN.{getD}
+use lib.ListN.{length}
 use Rattle.geometry.specs.declared.Rect.{Rect}
 use Rattle.geometry.specs.declared.Spot.{Spot}
 use Rattle.geometry.specs.declared.Sense.{Sense}
 use Rattle.geometry.specs.declared.Sense.the-variants.{Greatest, Least}
 use Rattle.geometry.specs.Extreme.{better, spotAt}
+use Rattle.geometry.specs.Sizes.{widest, SmallList}
+use Rattle.geometry.specs.Layout.{Drawn}
+use Rattle.extremes.specs.declared.Edges.{Edges}
 use Rattle.extremes.specs.Exact.{windowArea}
 
 -- ---- the positions of an axis that are tried
@@ -53,10 +56,6 @@ withSides near far last w (r ∷ rs) l = withSides near far last w rs (withEnd l
 unfoldable pub candidates : Sense → (axis : ℕ) → List Rect → (n w : ℕ) → List ℕ
 candidates s axis rs n w = withSides (nearSide s axis) (farSide s axis) (n - w) w rs (withPosition (n - w) (n - w) (0 ∷ []))
 
--- what 64 bits ask of a list of positions: none past 2^20
-pub record SmallList (l : List ℕ) : Type 0 where
-  pub small : (i : ℕ) → getD l i 0 ≤ 1048576
-
 -- ---- the search among them, in any order
 
 -- whether a window has a smaller y, or the same y and a smaller x
@@ -88,3 +87,37 @@ leadingInRows s f xs ys b = passed (λ y b. leadingInRow s f xs y b) ys b
 unfoldable pub searched : Sense → List Rect → (n w : ℕ) → Spot
 searched s rs n w =
     leadingInRows s (windowArea rs w) (candidates s 0 rs n w) (candidates s 1 rs n w) (spotAt (windowArea rs w) 0 0)
+
+-- ---- what the code asks, so that 64 bits and its tables hold what it forms
+
+-- a layout of side n and a window of side w that fits it
+pub record Searchable (rects : List ℕ) (n w : ℕ) : Type 0 where
+  pub drawn : Drawn rects
+  pub fits : w ≤ n
+  pub small : n ≤ widest
+
+-- a window of side w at the column x; at the listed columns of a row; at the listed columns and rows
+pub record SmallWindow (x w : ℕ) : Type 0 where
+  pub left : x ≤ widest
+  pub side : w ≤ widest
+
+pub record SmallRow (xs : List ℕ) (y w : ℕ) : Type 0 where
+  pub columns : SmallList xs
+  pub low : y ≤ widest
+  pub side : w ≤ widest
+
+pub record SmallRows (xs ys : List ℕ) (w : ℕ) : Type 0 where
+  pub columns : SmallList xs
+  pub rows : SmallList ys
+  pub side : w ≤ widest
+
+-- the axis 0 (x) or 1 (y), along which the window moves
+pub record OnAxis (axis n w : ℕ) : Type 0 where
+  pub is-axis : axis < 2
+  pub fits : w ≤ n
+
+-- the sides are two of a rectangle's four, and a list of `count` positions at the front of a buffer has room for two more for each rectangle
+pub record Listable (rects : List ℕ) (edges : Edges) (out : List ℕ) (count : ℕ) : Type 0 where
+  pub near : edges .near < 4
+  pub far : edges .far < 4
+  pub room : 2 * count + length rects ≤ 2 * length out

@@ -3,6 +3,8 @@
 // Only candidates are tried: on each axis 0, the last position, and those where
 // an edge of the window meets a rectangle's side. The first extreme is among
 // them, so the work is set by the number of rectangles and not by coordinates.
+use geometry::MOST_RECTS;
+use geometry::RECTS_ROOM;
 use geometry::Rect;
 use geometry::Sense;
 use geometry::Spot;
@@ -16,7 +18,12 @@ ghost use Rattle.geometry.specs.Overlaps.{stripSum, StripSmall};
 ghost use Rattle.geometry.specs.Extreme.{spotAt};
 ghost use Rattle.extremes.specs.Exact.{windowArea, extreme, exactRun};
 ghost use Rattle.extremes.specs.Search.{nearSide, farSide, listed, withPosition, withEnd, withSides, candidates};
-ghost use Rattle.extremes.specs.Search.{earlier, leads, leading, leadingInRow, leadingInRows, SmallList};
+ghost use Rattle.extremes.specs.Search.{Listable, OnAxis, SmallWindow, SmallRow, SmallRows, Searchable};
+ghost use Rattle.extremes.specs.Search.{earlier, leads, leading, leadingInRow, leadingInRows};
+
+// Room for the candidates of an axis: 0, the last position, and two for each
+// rectangle.
+const CANDIDATES_ROOM: usize = 2 * MOST_RECTS + 2;
 
 // The exact run's answer: the greatest and the least window.
 pub struct Extremes {
@@ -75,24 +82,34 @@ fn add_rect(out: &mut [u64], count: usize, near: u64, far: u64, w: u64, last: u6
     add_end(out, more, far, w, last)
 }
 
-// Adds the positions at which the window meets a drawn rectangle.
-fn add_sides(
-    rects: &[u64],
+// What the candidates of an axis are listed by: the sides of a rectangle that the
+// window's low and high edges meet, by their places in a table, the window's
+// side, and the last position.
+struct Edges {
     near: usize,
     far: usize,
     w: u64,
     last: u64,
-    out: &mut [u64],
-    count: usize,
-) -> usize
-    requires { ⌜ (near < 4) × (far < 4) ⌝ }
-    requires { ⌜ 2 * count + length (now rects) ≤ 2 * length (now out) ⌝ }
-    ensures { λ r. ⌜ Front (now (out .entry)) (withSides near far last w (rectsOf (now (rects .entry))) (take count (now (out .entry)))) (now (out .exit)) r ⌝ }
+}
+
+// Adds the positions at which the window meets a drawn rectangle.
+fn add_sides(rects: &[u64], edges: Edges, out: &mut [u64], count: usize) -> usize
+    requires { ⌜ Listable (now rects) edges (now out) count ⌝ }
+    ensures { λ r. ⌜ Front (now (out .entry)) (withSides (edges .near) (edges .far) (edges .last) (edges .w) (rectsOf (now (rects .entry))) (take count (now (out .entry)))) (now (out .exit)) r ⌝ }
 {
+    let near = edges.near;
+    let far = edges.far;
     let mut count = count;
     let mut i: usize = 0;
     while i + 3 < rects.len() {
-        count = add_rect(out, count, rects[i + near], rects[i + far], w, last);
+        count = add_rect(
+            out,
+            count,
+            rects[i + near],
+            rects[i + far],
+            edges.w,
+            edges.last,
+        );
         i += 4;
     }
     count
@@ -138,8 +155,7 @@ fn list_candidates(
     w: u64,
     out: &mut [u64],
 ) -> usize
-    requires { ⌜ axis < 2 ⌝ }
-    requires { ⌜ w ≤ n ⌝ }
+    requires { ⌜ OnAxis axis n w ⌝ }
     requires { ⌜ length (now rects) + 4 ≤ 2 * length (now out) ⌝ }
     ensures { λ r. ⌜ Front (now (out .entry)) (candidates sense axis (rectsOf (now (rects .entry))) n w) (now (out .exit)) r ⌝ }
 {
@@ -147,7 +163,7 @@ fn list_candidates(
     let count = list_ends(last, out);
     let near = near_side(sense, axis);
     let far = far_side(sense, axis);
-    add_sides(rects, near, far, w, last, out, count)
+    add_sides(rects, Edges { near, far, w, last }, out, count)
 }
 
 // Whether a window has a smaller y, or the same y and a smaller x.
@@ -188,7 +204,7 @@ fn leading_of(sense: Sense, old: Spot, new: Spot) -> Spot
 // Tries the window at x in the row whose strip is lent.
 fn try_window(strip: &[u64], w: u64, sense: Sense, x: u64, y: u64, best: Spot) -> Spot
     requires { ⌜ StripSmall (now strip) ⌝ }
-    requires { ⌜ (x ≤ 1048576) × (w ≤ 1048576) ⌝ }
+    requires { ⌜ SmallWindow x w ⌝ }
     ensures { λ r. ⌜ r ≡ leading sense best (spotAt (λ x y. stripSum (now (strip .entry)) x (x + w)) x y) ⌝ }
 {
     let area = geometry::strip_area(strip, x, x + w);
@@ -198,7 +214,7 @@ fn try_window(strip: &[u64], w: u64, sense: Sense, x: u64, y: u64, best: Spot) -
 // Tries the windows at every listed x in the row whose strip is lent.
 fn search_strip(strip: &[u64], w: u64, sense: Sense, xs: &[u64], y: u64, best: Spot) -> Spot
     requires { ⌜ StripSmall (now strip) ⌝ }
-    requires { ⌜ SmallList (now xs) × (w ≤ 1048576) ⌝ }
+    requires { ⌜ SmallRow (now xs) y w ⌝ }
     ensures { λ r. ⌜ r ≡ leadingInRow sense (λ x y. stripSum (now (strip .entry)) x (x + w)) (now (xs .entry)) y best ⌝ }
 {
     let mut best = best;
@@ -214,10 +230,10 @@ fn search_strip(strip: &[u64], w: u64, sense: Sense, xs: &[u64], y: u64, best: S
 // depends on y alone.
 fn search_row(rects: &[u64], w: u64, sense: Sense, xs: &[u64], y: u64, best: Spot) -> Spot
     requires { ⌜ Drawn (now rects) ⌝ }
-    requires { ⌜ SmallList (now xs) × (y ≤ 1048576) × (w ≤ 1048576) ⌝ }
+    requires { ⌜ SmallRow (now xs) y w ⌝ }
     ensures { λ r. ⌜ r ≡ leadingInRow sense (windowArea (rectsOf (now (rects .entry))) w) (now (xs .entry)) y best ⌝ }
 {
-    let mut strip = [0u64; 4096];
+    let mut strip = [0u64; RECTS_ROOM];
     let count = geometry::strip(rects, y, y + w, &mut strip);
     search_strip(&strip[..count], w, sense, xs, y, best)
 }
@@ -242,7 +258,7 @@ pub fn first_window(rects: &[u64], w: u64) -> Spot
 // Tries the windows at every listed x and y, after the one at (0, 0).
 fn search(rects: &[u64], w: u64, sense: Sense, xs: &[u64], ys: &[u64]) -> Spot
     requires { ⌜ Drawn (now rects) ⌝ }
-    requires { ⌜ SmallList (now xs) × SmallList (now ys) × (w ≤ 1048576) ⌝ }
+    requires { ⌜ SmallRows (now xs) (now ys) w ⌝ }
     ensures { λ r. ⌜ r ≡ leadingInRows sense (windowArea (rectsOf (now (rects .entry))) w) (now (xs .entry)) (now (ys .entry)) (spotAt (windowArea (rectsOf (now (rects .entry))) w) 0 0) ⌝ }
 {
     let mut best = first_window(rects, w);
@@ -256,22 +272,19 @@ fn search(rects: &[u64], w: u64, sense: Sense, xs: &[u64], ys: &[u64]) -> Spot
 
 // The extreme over all positions, with its window of least y, then least x.
 fn find_extreme(rects: &[u64], n: u64, w: u64, sense: Sense) -> Spot
-    requires { ⌜ Drawn (now rects) ⌝ }
-    requires { ⌜ (w ≤ n) × (n ≤ 1048576) ⌝ }
+    requires { ⌜ Searchable (now rects) n w ⌝ }
     ensures { λ r. ⌜ r ≡ extreme sense (rectsOf (now (rects .entry))) n w ⌝ }
 {
-    let mut xs = [0u64; 2050];
-    let mut ys = [0u64; 2050];
+    let mut xs = [0u64; CANDIDATES_ROOM];
+    let mut ys = [0u64; CANDIDATES_ROOM];
     let across = list_candidates(rects, sense, 0, n, w, &mut xs);
     let up = list_candidates(rects, sense, 1, n, w, &mut ys);
     search(rects, w, sense, &xs[..across], &ys[..up])
 }
 
-// The exact run. The tables that it keeps hold the candidates of 1,024 drawn
-// rectangles.
+// The exact run.
 pub fn exact_run(rects: &[u64], n: u64, w: u64) -> Extremes
-    requires { ⌜ Drawn (now rects) ⌝ }
-    requires { ⌜ (w ≤ n) × (n ≤ 1048576) ⌝ }
+    requires { ⌜ Searchable (now rects) n w ⌝ }
     ensures { λ r. ⌜ r ≡ exactRun (rectsOf (now (rects .entry))) n w ⌝ }
 {
     let greatest = find_extreme(rects, n, w, Sense::Greatest);

@@ -1,7 +1,7 @@
 -- The steps of the count of free squares: a box without squares, the end of the table, a rectangle that misses the box, and one that cuts it.
 use Prim.Native.Nat.{ℕ, _+_, _-_, _*_, _≤_, _<_}
-use mathlib.Core.Path.{_≡_, refl, sym, ap, _∙_, subst}
-use mathlib.Core.Bool.{Bool, true, false, _||_}
+use mathlib.Core.Path.{_≡_, sym, ap, _∙_, subst}
+use mathlib.Core.Bool.{Bool, true, false}
 use mathlib.Core.List.{List, _∷_}
 use mathlib.Core.Logic.{_⊎_, inl, inr}
 use native.Mathlib.Nat.{mul-zero, zero-mul, mul-le-mul}
@@ -9,7 +9,9 @@ use native.Mathlib.Omega.{arith}
 use lib.Dec.{leb}
 use lib.ListN.{length, drop}
 use borrow.Author.Tests.{leb-true, leb-false}
+use Rattle.laws.proofs.Tests.{either, neither}
 use Rattle.geometry.specs.declared.Rect.{Rect}
+use Rattle.geometry.specs.Sizes.{widest, largest}
 use Rattle.geometry.specs.Layout.{rectsOf}
 use Rattle.geometry.specs.Overlaps.{rectAt}
 use Rattle.geometry.proofs.Tables.{rects-next, rects-end}
@@ -18,14 +20,6 @@ use Rattle.fill.specs.Limits.{SmallBox}
 use Rattle.fill.proofs.Grown.{free-small, free-none, free-apart, free-around}
 
 -- ---- whether a box has squares
-
-either : (p q : Bool) → (p || q) ≡ true → (p ≡ true) ⊎ (q ≡ true)
-either true q e = inl refl
-either false q e = inr e
-
-neither : (p q : Bool) → (p || q) ≡ false → (p ≡ false) × (q ≡ false)
-neither true q e = absurd (let z : _≡_ {A = ℕ} 0 1 = cc in omega arith)
-neither false q e = (refl, e)
 
 empty-box : (b : Rect) (v : Bool) → v ≡ isEmpty b → v ≡ true → (b .x2 ≤ b .x1) ⊎ (b .y2 ≤ b .y1)
 empty-box b v e h = go (either (leb (b .x2) (b .x1)) (leb (b .y2) (b .y1)) (sym e ∙ h))
@@ -94,13 +88,13 @@ meeting-within r b m v e f k =
 
 -- ---- 64 bits
 
-pub size-fits : (b : Rect) → b .x2 ≤ 1048576 → b .y2 ≤ 1048576 → (b .x2 - b .x1) * (b .y2 - b .y1) ≤ 1099511627776
+pub size-fits : (b : Rect) → b .x2 ≤ widest → b .y2 ≤ widest → (b .x2 - b .x1) * (b .y2 - b .y1) ≤ largest
 size-fits b h k = mul-le-mul (across (b .x2) (b .x1) h) (across (b .y2) (b .y1) k)
   where
-    across : (v u : ℕ) → v ≤ 1048576 → v - u ≤ 1048576
+    across : (v u : ℕ) → v ≤ widest → v - u ≤ widest
     across v u l = omega arith
 
-pub free-fits : (g : ℕ) (t : List ℕ) (i : ℕ) (b : Rect) → b .x2 ≤ 1048576 → b .y2 ≤ 1048576 → freeFrom g t i b ≤ 1099511627776
+pub free-fits : (g : ℕ) (t : List ℕ) (i : ℕ) (b : Rect) → b .x2 ≤ widest → b .y2 ≤ widest → freeFrom g t i b ≤ largest
 free-fits g t i b h k = omega (arith, free-small (grownAll g (rectsOf (drop i t))) b, size-fits b h k)
 
 -- ---- boxes by their corners
@@ -114,7 +108,7 @@ part-small t g b m s h k = record { numbers = s .numbers; narrow = s .narrow; ri
 
 -- the four counts around a box add up below 2^42
 pub parts-fit : (g : ℕ) (t : List ℕ) (i : ℕ) (b m : Rect) (p q r s : ℕ) → SmallBox t g b → Within m b → p ≡ freeFrom g t i (below b m) →
-    q ≡ freeFrom g t i (leftOf b m) → r ≡ freeFrom g t i (rightOf b m) → s ≡ freeFrom g t i (above b m) → p + q + r + s ≤ 4398046511104
+    q ≡ freeFrom g t i (leftOf b m) → r ≡ freeFrom g t i (rightOf b m) → s ≡ freeFrom g t i (above b m) → p + q + r + s ≤ 4 * largest
 parts-fit g t i b m p q r s small within ep eq er es =
     omega (
       arith,

@@ -1,17 +1,18 @@
 -- A unit square is eligible exactly if no rectangle, grown by the gap on all sides, holds it; and what is left of a box outside another.
 use Prim.Native.Nat.{ℕ, zero, suc, _+_, _-_, _*_, _≤_, _<_}
 use mathlib.Core.Path.{_≡_, refl, ap, ap₂, _∙_}
-use mathlib.Core.Bool.{Bool, true, false, not, _&&_, _||_}
+use mathlib.Core.Bool.{Bool, true, false, not, _&&_, _||_, and-true}
 use mathlib.Core.List.{List, [], _∷_}
 use mathlib.Core.Logic.{_⊎_, inl, inr}
 use native.Mathlib.Nat.{sub-zero, add-zero}
 use native.Mathlib.Omega.{arith}
 use lib.Dec.{T, leb, ltb, leb·zero}
 use borrow.Author.Tests.{lt-ltb, le-ltb, le-leb, lt-leb}
+use Rattle.laws.proofs.Tests.{le-or-lt}
 use Rattle.geometry.specs.declared.Rect.{Rect}
 use Rattle.geometry.specs.Count.{boxSum, one-if}
 use Rattle.geometry.specs.Layout.{holds, covered}
-use Rattle.geometry.proofs.Counting.{Inside, le-or-lt, box-cong, box-le, box-const, box-cut-rows, box-cut-columns}
+use Rattle.geometry.proofs.Counting.{Inside, box-cong, box-le, box-const, box-cut-rows, box-cut-columns}
 use Rattle.geometry.proofs.Overlaps.{one-if-small}
 use Rattle.fill.specs.Eligible.{gapBetween, clearOf, clearOfAll, eligible, fillableArea}
 use Rattle.fill.specs.Free.{grown, grownAll, freeArea, meeting, below, leftOf, rightOf, above}
@@ -51,10 +52,6 @@ outside-both false hy true false p q = refl
 outside-both true true true true p q = refl
 outside-both true false true true p q = refl
 outside-both false hy true true p q = refl
-
-and-true : (p : Bool) → (p && true) ≡ p
-and-true true = refl
-and-true false = refl
 
 -- uncovered and far enough is outside the grown rectangle; with gap 0 that is the rectangle itself
 one-grown : (g : ℕ) (r : Rect) (x y : ℕ) → (not (holds r x y) && clearOf g r x y) ≡ not (holds (grown g r) x y)

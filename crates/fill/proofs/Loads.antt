@@ -9,7 +9,9 @@ use native.Mathlib.Omega.{arith}
 use lib.Arith.{digits-lt, digits-div, digits-mod}
 use lib.ListN.{length, getD, set, length-set}
 use lib.Seq.{getD-set-same, getD-set-other}
+use Rattle.laws.proofs.Tests.{below-or-last}
 use Rattle.geometry.specs.declared.Rect.{Rect}
+use Rattle.geometry.specs.Sizes.{widest, largest}
 use Rattle.geometry.specs.Count.{boxSum}
 use Rattle.geometry.specs.Layout.{coveredArea, rectsOf}
 use Rattle.geometry.proofs.Counting.{Inside, box-cong, box-le, box-const}
@@ -23,9 +25,9 @@ use Rattle.fill.specs.declared.Verdict.the-variants.{Broken}
 use Rattle.fill.specs.Eligible.{tile, fillableArea}
 use Rattle.fill.specs.Judge.{TileBox, numberAt, load, standardTiles, bloatedTiles, shrunkTiles, failingAt, startsAcross, standardFailing, marginFailing, judged, verdictOf}
 use Rattle.fill.specs.Windows.{ruleOf, loadOf, tilesForUpper, tilesForLower, failingBy, searchBy, allTiles, Loads, Filled}
-use Rattle.fill.specs.Limits.{Tiled}
+use Rattle.fill.specs.Limits.{mostAcross, tilesRoom, topBound, Tiled}
 use Rattle.fill.proofs.Grown.{fillable-small}
-use Rattle.fill.proofs.Starts.{below-or-last, rows-cong}
+use Rattle.fill.proofs.Starts.{rows-cong}
 use Rattle.fill.proofs.Cutting.{same-box}
 
 -- ---- a table that is filled from the front
@@ -65,10 +67,10 @@ module _ (across side t : ℕ) (h : t < across * across) where
   row-small : t / across < across
   row-small = div-lt-iff-lt-mul {k = across} some .1 h
 
-  pub tile-inside : across * side ≤ 1048576 → (suc (t % across) * side ≤ 1048576) × (suc (t / across) * side ≤ 1048576)
+  pub tile-inside : across * side ≤ widest → (suc (t % across) * side ≤ widest) × (suc (t / across) * side ≤ widest)
   tile-inside s = (omega (arith, mul-le-mul-right side column-small), omega (arith, mul-le-mul-right side row-small))
 
-  pub side-small : across * side ≤ 1048576 → side ≤ 1048576
+  pub side-small : across * side ≤ widest → side ≤ widest
   side-small s = omega (arith, mul-le-mul-right side some)
 
 -- a tile's width
@@ -87,7 +89,7 @@ module _ (rects amounts : List ℕ) (plan : Plan) (t v : ℕ) (b : Rect) (e : b 
   pub load-formed : v + getD amounts t 0 ≡ loadOf (rectsOf rects) amounts plan t
   load-formed = ap₂ _+_ (k ∙ ap (coveredArea (rectsOf rects)) e) (ap (λ (p : ℕ). getD amounts p 0) (sym (div-add-mod' t (plan .across))))
 
-  pub load-fits : Tiled rects amounts plan → t < plan .across * plan .across → v + getD amounts t 0 ≤ 2199023255552
+  pub load-fits : Tiled rects amounts plan → t < plan .across * plan .across → v + getD amounts t 0 ≤ 2 * largest
   load-fits s h =
       omega (
         arith,
@@ -166,11 +168,11 @@ module _ (rects amounts : List ℕ) (plan : Plan) (before table : List ℕ)
 
 -- ---- 64 bits
 
-pub bound-fits : (bound window : ℕ) → bound ≤ 10000 → window ≤ 1048576 →
-    (bound * window ≤ 10485760000) × (bound * window * window ≤ 10995116277760000)
+pub bound-fits : (bound window : ℕ) → bound ≤ topBound → window ≤ widest →
+    (bound * window ≤ topBound * widest) × (bound * window * window ≤ topBound * widest * widest)
 bound-fits bound window h k = (mul-le-mul h k, mul-le-mul (mul-le-mul h k) k)
 
-pub tiles-few : (across : ℕ) → across ≤ 64 → across * across ≤ 4096
+pub tiles-few : (across : ℕ) → across ≤ mostAcross → across * across ≤ tilesRoom
 tiles-few across h = mul-le-mul h h
 
 -- ---- the two searches together

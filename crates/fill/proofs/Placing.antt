@@ -7,11 +7,12 @@ use mathlib.Core.Logic.{_⊎_, inl, inr}
 use native.Mathlib.Nat.{suc-mul, min-eq-left}
 use native.Mathlib.Omega.{arith}
 use lib.Arith.{digits-div, digits-mod}
-use lib.Dec.{T, ltb}
+use lib.Dec.{ltb}
 use borrow.Author.Tests.{lt-ltb, le-ltb}
+use Rattle.laws.proofs.Tests.{le-or-lt, T-both}
 use Rattle.geometry.specs.declared.Rect.{Rect}
 use Rattle.geometry.specs.Count.{sum, boxSum, one-if}
-use Rattle.geometry.proofs.Counting.{le-or-lt, sum-cong}
+use Rattle.geometry.proofs.Counting.{sum-cong}
 use Rattle.fill.specs.declared.Plan.{Plan}
 use Rattle.fill.specs.Eligible.{eligible, tile, fillableArea}
 use Rattle.fill.specs.Judge.{numberAt}
@@ -55,9 +56,6 @@ abbrev firsts : (ℕ → ℕ → Bool) → List ℕ → (across side : ℕ) → 
 firsts e amounts across side x y =
     e x y && ltb (rank side (λ m k. e (x / side * side + m) (y / side * side + k)) (x % side) (y % side)) (numberAt amounts across (x / side) (y / side))
 
-both : (a b : Bool) → T (a && b) → T a × T b
-both true true h = (tt, tt)
-
 module _ (gap : ℕ) (rs : List Rect) (amounts : List ℕ) (across side : ℕ)
     (fit : (i j : ℕ) → i < across → j < across → numberAt amounts across i j ≤ fillableArea gap rs (tile side i j)) where
   chosen : ℕ → ℕ → Bool
@@ -89,7 +87,7 @@ module _ (gap : ℕ) (rs : List Rect) (amounts : List ℕ) (plan : Plan)
   placement = (
     chosen gap rs amounts (plan .across) (plan .side) fit,
     record {
-      allowed = λ x y h. both (eligible gap rs x y) _ h .0;
+      allowed = λ x y h. T-both (eligible gap rs x y) _ h .0;
       stated = exactly gap rs amounts (plan .across) (plan .side) fit;
     },
   )

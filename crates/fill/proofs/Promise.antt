@@ -8,10 +8,11 @@ use mathlib.Core.Logic.{_⊎_, inl, inr}
 use native.Mathlib.Nat.{mul-le-mul-right, suc-mul, add-mul, mul-comm, mul-sub, min-eq-left, min-eq-right, le-of-lt, div-mul-le-self, lt-div-mul-add, div-lt-iff-lt-mul}
 use native.Mathlib.Omega.{arith}
 use lib.Dec.{T, leb→le, le→leb}
+use Rattle.laws.proofs.Tests.{le-or-lt}
 use Rattle.geometry.specs.declared.Rect.{Rect}
 use Rattle.geometry.specs.Count.{boxSum, one-if}
 use Rattle.geometry.specs.Layout.{covered, coveredArea, windowBox}
-use Rattle.geometry.proofs.Counting.{le-or-lt, box-cong, box-plus, box-within}
+use Rattle.geometry.proofs.Counting.{box-cong, box-plus, box-within}
 use Rattle.fill.specs.declared.Plan.{Plan}
 use Rattle.fill.specs.declared.Bound.{Bound}
 use Rattle.fill.specs.declared.Bound.the-variants.{Over, Under}

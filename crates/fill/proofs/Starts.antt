@@ -1,9 +1,9 @@
 -- The search for the first failing start: what "none" and "found" say of every start that was looked at.
-use Prim.Native.Nat.{ℕ, zero, suc, _≤_, _<_}
+use Prim.Native.Nat.{ℕ, zero, suc, _<_}
 use mathlib.Core.Path.{_≡_, refl, sym, ap, _∙_}
 use mathlib.Core.Logic.{_⊎_, inl, inr}
 use native.Mathlib.Omega.{arith}
-use Rattle.geometry.proofs.Counting.{le-or-lt}
+use Rattle.laws.proofs.Tests.{below-or-last}
 use Rattle.fill.specs.declared.Bound.{Bound}
 use Rattle.fill.specs.declared.Failing.{Failing}
 use Rattle.fill.specs.declared.Failing.the-variants.{Nowhere, At}
@@ -23,14 +23,6 @@ pub rows-first : (f : ℕ → ℕ → Failing) (k m : ℕ) → failingInRows f k
 unfolding failingInRows firstOf
 rows-first f k zero = refl
 rows-first f k (suc m) = ap (λ (o : Failing). orElse o (failingInRow f m k)) (rows-first f k m)
-
--- the last of suc k numbers, or one below
-pub below-or-last : (i k : ℕ) → i < suc k → (i < k) ⊎ (i ≡ k)
-below-or-last i k h = go (le-or-lt k i)
-  where
-    go : (k ≤ i) ⊎ (i < k) → (i < k) ⊎ (i ≡ k)
-    go (inl l) = inr (omega arith)
-    go (inr l) = inl l
 
 never : {A : Type 0} (b : Bound) (x y : ℕ) → At b x y ≡ Nowhere → A
 never b x y e = absurd (let z : _≡_ {A = ℕ} 0 1 = cc in omega arith)

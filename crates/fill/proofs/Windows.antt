@@ -14,6 +14,7 @@ use Rattle.fill.specs.declared.judging.Rule.{Rule}
 use Rattle.fill.specs.declared.Bound.the-variants.{Over, Under}
 use Rattle.fill.specs.declared.Failing.{Failing}
 use Rattle.fill.specs.declared.Failing.the-variants.{Nowhere, At}
+use Rattle.fill.specs.Limits.{heaviest}
 use Rattle.fill.specs.Windows.{tilesForUpper, tilesForLower, failingWithin, failingBy, isFound, allTiles, Loads, IsTile, InRow, InLayout, IsStart}
 use Rattle.fill.specs.Judge.{TileBox, numberAt}
 use Rattle.fill.proofs.Starts.{firstOf, none-more, found-more}
@@ -35,12 +36,12 @@ span-room f a b total i v m e h k l = omega (arith, span-next f a b total i v e 
 pub place-within : (across i j m : ℕ) → IsTile across i j → across * across ≤ m → j * across + i < m
 place-within across i j m t l = omega (arith, digits-lt {q = j} {m = across} {r = i} {c = across} (t .row) (t .column))
 
-pub box-light : (table : List ℕ) (across : ℕ) (b : TileBox) → Loads table across → InLayout across b → boxSum b (numberAt table across) ≤ 1125899906842624
+pub box-light : (table : List ℕ) (across : ℕ) (b : TileBox) → Loads table across → InLayout across b → boxSum b (numberAt table across) ≤ heaviest
 box-light table across b s h =
     le-trans (box-within b (allTiles across) (numberAt table across) (omega arith) (omega arith) (h .right) (h .high)) (s .light)
 
 pub row-light : (table : List ℕ) (across j x1 x2 : ℕ) → Loads table across → InRow across j x2 →
-    span x1 x2 (λ i. numberAt table across i j) ≤ 1125899906842624
+    span x1 x2 (λ i. numberAt table across i j) ≤ heaviest
 row-light table across j x1 x2 s h =
     omega (
       arith,
@@ -109,5 +110,5 @@ module _ (rule : Rule) (margin i j : ℕ) where
       ev ∙ ap₂ (failingWithin rule i j) (eo ∙ ap (λ (q : TileBox). boxSum q load) ea) (eu ∙ ap (λ (q : TileBox). boxSum q load) eb)
 
 pub load-light : (table : List ℕ) (across : ℕ) (b : TileBox) (v : ℕ) → Loads table across → v ≡ boxSum b (numberAt table across) → InLayout across b →
-    v ≤ 1125899906842624
+    v ≤ heaviest
 load-light table across b v s e h = omega (arith, box-light table across b s h)

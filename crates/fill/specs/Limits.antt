@@ -5,29 +5,45 @@ use mathlib.Core.Path.{_≡_}
 use mathlib.Core.List.{List}
 use lib.ListN.{length, getD}
 use Rattle.geometry.specs.declared.Rect.{Rect}
+use Rattle.geometry.specs.Sizes.{widest}
 use Rattle.geometry.specs.Layout.{Drawn}
 use Rattle.fill.specs.declared.Plan.{Plan}
 use Rattle.fill.specs.Free.{Within}
 
+-- tiles across a layout, and the numbers of a table with one for each
+abbrev pub mostAcross : ℕ
+mostAcross = 64
+
+abbrev pub tilesRoom : ℕ
+tilesRoom = mostAcross * mostAcross
+
+-- the load of all tiles together: 10,000 times 2^50 fits 64 bits
+abbrev pub heaviest : ℕ
+heaviest = 1125899906842624
+
+-- L and U, in ten-thousandths
+abbrev pub topBound : ℕ
+topBound = 10000
+
 -- no number of the table, no gap and no far corner of the box past 2^20; the rectangles may overlap
 pub record SmallBox (table : List ℕ) (gap : ℕ) (b : Rect) : Type 0 where
-  pub numbers : (i : ℕ) → getD table i 0 ≤ 1048576
-  pub narrow : gap ≤ 1048576
-  pub right : b .x2 ≤ 1048576
-  pub high : b .y2 ≤ 1048576
+  pub numbers : (i : ℕ) → getD table i 0 ≤ widest
+  pub narrow : gap ≤ widest
+  pub right : b .x2 ≤ widest
+  pub high : b .y2 ≤ widest
 
 -- a box whose size is formed
 pub record Upright (b : Rect) : Type 0 where
   pub across : b .x1 ≤ b .x2
   pub up : b .y1 ≤ b .y2
-  pub right : b .x2 ≤ 1048576
-  pub high : b .y2 ≤ 1048576
+  pub right : b .x2 ≤ widest
+  pub high : b .y2 ≤ widest
 
 -- a rectangle stands at a place of the table, and may be grown by the gap
 pub record Growable (table : List ℕ) (gap at : ℕ) : Type 0 where
   pub place : at + 3 < length table
-  pub numbers : (i : ℕ) → getD table i 0 ≤ 1048576
-  pub narrow : gap ≤ 1048576
+  pub numbers : (i : ℕ) → getD table i 0 ≤ widest
+  pub narrow : gap ≤ widest
 
 -- the squares around the box m, which lies in b, are counted by the rectangles from a place on
 pub record Around (table : List ℕ) (gap at : ℕ) (b m : Rect) : Type 0 where
@@ -35,18 +51,18 @@ pub record Around (table : List ℕ) (gap at : ℕ) (b m : Rect) : Type 0 where
   pub small : SmallBox table gap b
   pub within : Within m b
 
--- a layout whose loads are formed: its rectangles, and an amount for each of its tiles, at most 64 across
+-- a layout whose loads are formed: its rectangles, and an amount for each of its tiles, at most `mostAcross` across
 pub record Tiled (rects amounts : List ℕ) (plan : Plan) : Type 0 where
   pub drawn : Drawn rects
-  pub few : plan .across ≤ 64
+  pub few : plan .across ≤ mostAcross
   pub table : length amounts ≡ plan .across * plan .across
   pub room : (i : ℕ) → getD amounts i 0 ≤ plan .side * plan .side
-  pub layout : plan .across * plan .side ≤ 1048576
+  pub layout : plan .across * plan .side ≤ widest
 
 -- a plan that is judged
 pub record Planned (rects amounts : List ℕ) (plan : Plan) : Type 0 where
   pub tiled : Tiled rects amounts plan
   pub fits : plan .cut ≤ plan .across
-  pub window : plan .window ≤ 1048576
-  pub lower : plan .lower ≤ 10000
-  pub upper : plan .upper ≤ 10000
+  pub window : plan .window ≤ widest
+  pub lower : plan .lower ≤ topBound
+  pub upper : plan .upper ≤ topBound

@@ -13,6 +13,7 @@ use Rattle.fill.specs.declared.judging.Rule.{Rule}
 use Rattle.fill.specs.declared.Bound.the-variants.{Over, Under}
 use Rattle.fill.specs.declared.Failing.{Failing}
 use Rattle.fill.specs.declared.Failing.the-variants.{Nowhere, At}
+use Rattle.fill.specs.Limits.{mostAcross, heaviest}
 use Rattle.fill.specs.Judge.{TileBox, numberAt, load, failingInRows}
 
 -- what the loads of a plan are judged by
@@ -62,9 +63,9 @@ allTiles across = record { x1 = 0; y1 = 0; x2 = across; y2 = across }
 
 -- a table of loads, `across` to a row: 10,000 times its whole load fits 64 bits
 pub record Loads (table : List ℕ) (across : ℕ) : Type 0 where
-  pub few : across ≤ 64
+  pub few : across ≤ mostAcross
   pub full : across * across ≤ length table
-  pub light : boxSum (allTiles across) (numberAt table across) ≤ 1125899906842624
+  pub light : boxSum (allTiles across) (numberAt table across) ≤ heaviest
 
 -- a tile of the layout; the columns before one of a row; a box of tiles
 pub record IsTile (across i j : ℕ) : Type 0 where
@@ -81,7 +82,7 @@ pub record InLayout (across : ℕ) (b : TileBox) : Type 0 where
 
 -- (i, j) is the start of a window that lies in the layout, and a margin is at most one tile
 pub record IsStart (rule : Rule) (margin i j : ℕ) : Type 0 where
-  pub few : rule .across ≤ 64
+  pub few : rule .across ≤ mostAcross
   pub thin : margin ≤ 1
   pub columns : i + rule .cut ≤ rule .across
   pub rows : j + rule .cut ≤ rule .across

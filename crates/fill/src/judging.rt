@@ -8,6 +8,7 @@ ghost use Prim.Native.Nat.{suc, _-_, _≤_};
 ghost use mathlib.Core.Path.{_≡_};
 ghost use Rattle.geometry.specs.Count.{span, boxSum};
 ghost use Rattle.fill.specs.declared.Failing.the-variants.{Nowhere};
+ghost use Rattle.fill.specs.Limits.{heaviest};
 ghost use Rattle.fill.specs.Judge.{numberAt, failingInRow, judged};
 ghost use Rattle.fill.specs.Windows.{tilesForUpper, tilesForLower, failingWithin, failingBy, searchBy, isFound, Loads, IsTile, InRow, InLayout, IsStart};
 
@@ -91,7 +92,7 @@ fn tiles_for_lower(rule: Rule, margin: u64, i: u64, j: u64) -> Rect
 // The bound that a start fails, U before L: `upper` and `lower` are the sums that
 // U and L are judged by.
 fn failed(rule: Rule, i: u64, j: u64, upper: u64, lower: u64) -> Failing
-    requires { ⌜ (upper ≤ 1125899906842624) × (lower ≤ 1125899906842624) ⌝ }
+    requires { ⌜ (upper ≤ heaviest) × (lower ≤ heaviest) ⌝ }
     ensures { λ f. ⌜ f ≡ failingWithin rule i j upper lower ⌝ }
 {
     if rule.high < 10000 * upper {

@@ -2,6 +2,7 @@
 use geometry::Rect;
 ghost use Prim.Native.Nat.{suc, _*_, _≤_};
 ghost use mathlib.Core.Path.{_≡_};
+ghost use Rattle.geometry.specs.Sizes.{widest};
 ghost use Rattle.geometry.specs.Layout.{rectsOf};
 ghost use Rattle.fill.specs.Eligible.{tile, fillableArea};
 ghost use Rattle.fill.specs.Judge.{verdictOf};
@@ -10,6 +11,12 @@ ghost use Rattle.fill.specs.Limits.{SmallBox, Planned};
 mod free;
 mod judging;
 mod tiling;
+
+// How many tiles may lie across a layout, and the numbers of a table with one for
+// each.
+pub const MOST_ACROSS: usize = 64;
+
+pub const TILES_ROOM: usize = MOST_ACROSS * MOST_ACROSS;
 
 // The bound that a window fails: over says that U fails, under that L does.
 pub enum Bound {
@@ -44,7 +51,7 @@ pub struct Plan {
 
 // The box of a tile.
 pub fn tile_box(side: u64, i: u64, j: u64) -> Rect
-    requires { ⌜ (suc i * side ≤ 1048576) × (suc j * side ≤ 1048576) ⌝ }
+    requires { ⌜ (suc i * side ≤ widest) × (suc j * side ≤ widest) ⌝ }
     ensures { λ b. ⌜ b ≡ tile side i j ⌝ }
 {
     let x = i * side;
@@ -71,7 +78,7 @@ pub fn judge(rects: &[u64], amounts: &[u64], plan: Plan) -> Verdict
     requires { ⌜ Planned (now rects) (now amounts) plan ⌝ }
     ensures { λ v. ⌜ v ≡ verdictOf (rectsOf (now (rects .entry))) (now (amounts .entry)) plan ⌝ }
 {
-    let mut table = [0u64; 4096];
+    let mut table = [0u64; TILES_ROOM];
     tiling::set_loads(rects, amounts, plan, &mut table);
     judging::judge_loads(
         &table,

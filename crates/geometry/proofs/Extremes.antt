@@ -8,11 +8,11 @@ use mathlib.Core.Logic.{_⊎_, inl, inr}
 use native.Mathlib.Nat.{zero-mul, mul-le-mul-right}
 use native.Mathlib.Omega.{arith}
 use borrow.Author.Tests.{ltb-true, ltb-false, lt-ltb, le-ltb}
+use Rattle.laws.proofs.Tests.{le-or-lt, true-false}
 use Rattle.geometry.specs.declared.Spot.{Spot}
 use Rattle.geometry.specs.declared.Sense.{Sense}
 use Rattle.geometry.specs.declared.Sense.the-variants.{Greatest, Least}
 use Rattle.geometry.specs.Extreme.{better, spotAt, replaced, bestInRow, bestInRows}
-use Rattle.geometry.proofs.Counting.{le-or-lt}
 
 -- ---- one step
 
@@ -24,9 +24,6 @@ pub step-skip : (s : Sense) (old new : Spot) → better s (new .area) (old .area
 step-skip s old new e = rw (e, replaced)
 
 -- ---- the order of areas
-
-true-false : (p : Bool) → p ≡ true → p ≡ false → ⊥
-true-false p t f = let z : _≡_ {A = ℕ} 0 1 = cc in omega arith
 
 -- neither is better: they are the same
 pub better-neither : (s : Sense) (a b : ℕ) → better s a b ≡ false → better s b a ≡ false → a ≡ b

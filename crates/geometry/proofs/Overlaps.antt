@@ -8,25 +8,26 @@ use mathlib.Core.Logic.{_⊎_, inl, inr}
 use native.Mathlib.Omega.{arith}
 use lib.Dec.{T, leb, ltb}
 use borrow.Author.Tests.{lt-ltb, le-ltb, le-leb, lt-leb}
+use Rattle.laws.proofs.Tests.{le-or-lt}
 use Rattle.geometry.specs.declared.Rect.{Rect}
 use Rattle.geometry.specs.Count.{sum, span, boxSum, one-if}
 use Rattle.geometry.specs.Layout.{holds, covered, coveredArea, Disjoint}
 use Rattle.geometry.specs.Overlaps.{common, overlap, overlapSum, part, stripOf, stripSum}
-use Rattle.geometry.proofs.Counting.{le-or-lt, box-cong, box-le, box-plus, box-const, box-product}
+use Rattle.geometry.proofs.Counting.{box-cong, box-le, box-plus, box-const, box-product}
 
 -- ---- tests as counts
 
-both : (p q : Bool) → one-if (p && q) ≡ one-if q * one-if p
-both true true = refl
-both true false = refl
-both false true = refl
-both false false = refl
+one-if-both : (p q : Bool) → one-if (p && q) ≡ one-if q * one-if p
+one-if-both true true = refl
+one-if-both true false = refl
+one-if-both false true = refl
+one-if-both false false = refl
 
-either : (p q : Bool) → (T p → T q → ⊥) → one-if (p || q) ≡ one-if p + one-if q
-either true true h = absurd (h tt tt)
-either true false h = refl
-either false true h = refl
-either false false h = refl
+one-if-either : (p q : Bool) → (T p → T q → ⊥) → one-if (p || q) ≡ one-if p + one-if q
+one-if-either true true h = absurd (h tt tt)
+one-if-either true false h = refl
+one-if-either false true h = refl
+one-if-either false false h = refl
 
 pub one-if-small : (p : Bool) → one-if p ≤ 1
 one-if-small true = omega arith
@@ -73,7 +74,7 @@ span-common a b c d = sum-common a b c (d - c) ∙ ends
 pub one-overlap : (r b : Rect) → boxSum b (λ x y. one-if (holds r x y)) ≡ overlap r b
 one-overlap r b =
     box-cong b (λ x y. one-if (holds r x y)) (λ x y. one-if (between (r .y1) (r .y2) y) * one-if (between (r .x1) (r .x2) x))
-    (λ x y i. both (between (r .x1) (r .x2) x) (between (r .y1) (r .y2) y))
+    (λ x y i. one-if-both (between (r .x1) (r .x2) x) (between (r .y1) (r .y2) y))
     ∙ box-product b (λ x. one-if (between (r .x1) (r .x2) x)) (λ y. one-if (between (r .y1) (r .y2) y))
     ∙ ap₂ _*_ (span-common (r .x1) (r .x2) (b .x1) (b .x2)) (span-common (r .y1) (r .y2) (b .y1) (b .y2))
 
@@ -83,7 +84,7 @@ pub area-cons : (r : Rect) (rs : List Rect) (b : Rect) → ((x y : ℕ) → T (h
 unfolding covered
 area-cons r rs b h =
     box-cong b (λ x y. one-if (covered (r ∷ rs) x y)) (λ x y. one-if (holds r x y) + one-if (covered rs x y))
-    (λ x y i. either (holds r x y) (covered rs x y) (h x y))
+    (λ x y i. one-if-either (holds r x y) (covered rs x y) (h x y))
     ∙ box-plus b (λ x y. one-if (holds r x y)) (λ x y. one-if (covered rs x y))
     ∙ ap (λ (k : ℕ). k + coveredArea rs b) (one-overlap r b)
 

@@ -6,6 +6,7 @@ use mathlib.Core.List.{List}
 use native.Mathlib.Omega.{arith}
 use lib.Dec.{T, leb, ltb, leb→le, le→leb, ltb→lt, lt→ltb}
 use borrow.Author.Tests.{lt-ltb, ltb-true}
+use Rattle.laws.proofs.Tests.{T-and, T-both}
 use Rattle.geometry.specs.declared.Rect.{Rect}
 use Rattle.geometry.specs.Count.{one-if}
 use Rattle.geometry.specs.Layout.{holds, covered, coveredArea, sharesSquare}
@@ -13,34 +14,22 @@ use Rattle.geometry.proofs.Counting.{Inside, box-term, box-above}
 
 -- ---- what a box holds
 
-both-true : (p q : Bool) → T p → T q → T (p && q)
-both-true true true h k = tt
-both-true true false h k = k
-both-true false q h k = absurd h
-
-first-true : (p q : Bool) → T (p && q) → T p
-first-true true q h = tt
-first-true false q h = h
-
-second-true : (p q : Bool) → T (p && q) → T q
-second-true true q h = h
-second-true false q h = absurd h
-
 pub inside-holds : (b : Rect) (x y : ℕ) → Inside b x y → T (holds b x y)
 inside-holds b x y i =
-    both-true (leb (b .x1) x && ltb x (b .x2)) (leb (b .y1) y && ltb y (b .y2))
-    (both-true (leb (b .x1) x) (ltb x (b .x2)) (le→leb (b .x1) x (i .left)) (lt→ltb x (b .x2) (i .right)))
-    (both-true (leb (b .y1) y) (ltb y (b .y2)) (le→leb (b .y1) y (i .low)) (lt→ltb y (b .y2) (i .high)))
+    T-and (leb (b .x1) x && ltb x (b .x2)) (leb (b .y1) y && ltb y (b .y2))
+    (T-and (leb (b .x1) x) (ltb x (b .x2)) (le→leb (b .x1) x (i .left)) (lt→ltb x (b .x2) (i .right)))
+    (T-and (leb (b .y1) y) (ltb y (b .y2)) (le→leb (b .y1) y (i .low)) (lt→ltb y (b .y2) (i .high)))
 
 pub holds-inside : (b : Rect) (x y : ℕ) → T (holds b x y) → Inside b x y
 holds-inside b x y h =
-    let across = first-true (leb (b .x1) x && ltb x (b .x2)) (leb (b .y1) y && ltb y (b .y2)) h in
-    let up = second-true (leb (b .x1) x && ltb x (b .x2)) (leb (b .y1) y && ltb y (b .y2)) h in
+    let held = T-both (leb (b .x1) x && ltb x (b .x2)) (leb (b .y1) y && ltb y (b .y2)) h in
+    let across = T-both (leb (b .x1) x) (ltb x (b .x2)) (held .0) in
+    let up = T-both (leb (b .y1) y) (ltb y (b .y2)) (held .1) in
     record {
-      left = leb→le (b .x1) x (first-true (leb (b .x1) x) (ltb x (b .x2)) across);
-      right = ltb→lt x (b .x2) (second-true (leb (b .x1) x) (ltb x (b .x2)) across);
-      low = leb→le (b .y1) y (first-true (leb (b .y1) y) (ltb y (b .y2)) up);
-      high = ltb→lt y (b .y2) (second-true (leb (b .y1) y) (ltb y (b .y2)) up);
+      left = leb→le (b .x1) x (across .0);
+      right = ltb→lt x (b .x2) (across .1);
+      low = leb→le (b .y1) y (up .0);
+      high = ltb→lt y (b .y2) (up .1);
     }
 
 -- ---- a shared square

@@ -6,6 +6,7 @@ use mathlib.Core.List.{List, [], _∷_, _++_}
 use native.Mathlib.Omega.{arith}
 use lib.ListN.{length, getD, take, drop, set, length-append, length-drop}
 use Rattle.geometry.specs.declared.Rect.{Rect}
+use Rattle.geometry.specs.Sizes.{widest}
 use Rattle.geometry.specs.Layout.{coveredArea, rectsOf, Drawn}
 use Rattle.geometry.specs.Overlaps.{rectAt, common, part, rowsPart, stripOf, columnsPart, narrowed, stripSum, StripSmall}
 use Rattle.buffers.specs.Written.{Written, Front}
@@ -120,7 +121,7 @@ pub strip-small : (t : List ℕ) (y1 y2 : ℕ) → Drawn t → StripSmall (strip
 strip-small t y1 y2 d =
     record {
       few = omega (arith, strip-short (rectsOf t) y1 y2, rects-few t, d .few);
-      small = strip-numbers 1048576 t y1 y2 (d .small);
+      small = strip-numbers widest t y1 y2 (d .small);
     }
 
 narrowed-short : (s : List ℕ) (x1 x2 : ℕ) → length (narrowed s x1 x2) ≤ length s
@@ -148,7 +149,7 @@ pub narrowed-small : (s : List ℕ) (x1 x2 : ℕ) → StripSmall s → StripSmal
 narrowed-small s x1 x2 d =
     record {
       few = omega (arith, narrowed-short s x1 x2, d .few);
-      small = narrowed-numbers 1048576 s x1 x2 (d .small);
+      small = narrowed-numbers widest s x1 x2 (d .small);
     }
 
 -- ---- the written part of the buffer, as it is lent for sums

@@ -1,7 +1,7 @@
 -- Tables of numbers, four to a rectangle: the rectangle at a place, and a table that grows by one.
 use Prim.Native.Nat.{ℕ, zero, suc, _+_, _*_, _≤_, _<_}
-use mathlib.Core.Path.{_≡_, refl, ap, _∙_}
-use mathlib.Core.Bool.{Bool, true, false, _||_}
+use mathlib.Core.Path.{_≡_, refl, sym, ap, _∙_}
+use mathlib.Core.Bool.{Bool, true, false, _||_, or-assoc}
 use mathlib.Core.Logic.{_⊎_, inl, inr}
 use mathlib.Core.List.{List, [], _∷_, _++_}
 use native.Mathlib.Numerals.{add-one, add-two, add-three}
@@ -9,6 +9,7 @@ use native.Mathlib.Omega.{arith}
 use lib.Dec.{T}
 use lib.ListN.{length, getD, drop, length-drop}
 use lib.Seq.{drop-cons}
+use Rattle.laws.proofs.Tests.{T-either, T-left, T-right}
 use Rattle.geometry.specs.declared.Rect.{Rect}
 use Rattle.geometry.specs.Layout.{holds, covered, Disjoint, rectsOf}
 use Rattle.geometry.specs.Overlaps.{rectAt}
@@ -93,34 +94,18 @@ pub rects-more : (k : ℕ) (t : List ℕ) (a b c d : ℕ) → length t ≡ 4 * k
 unfolding rectsOf
 rects-more k t a b c d e = rects-append k t (a ∷ b ∷ c ∷ d ∷ []) e
 
-either-assoc : (p q r : Bool) → (p || (q || r)) ≡ (p || q || r)
-either-assoc true q r = refl
-either-assoc false q r = refl
-
-either-true : (p q : Bool) → T (p || q) → T p ⊎ T q
-either-true true q h = inl tt
-either-true false q h = inr h
-
-left-true : (p q : Bool) → T p → T (p || q)
-left-true true q h = tt
-left-true false q h = absurd h
-
-right-true : (p q : Bool) → T q → T (p || q)
-right-true true q h = tt
-right-true false q h = h
-
 pub covered-append : (rs ss : List Rect) (x y : ℕ) → covered (rs ++ ss) x y ≡ (covered rs x y || covered ss x y)
 unfolding covered
 covered-append [] ss x y = refl
 covered-append (r ∷ rs) ss x y =
-    ap (λ (p : Bool). holds r x y || p) (covered-append rs ss x y) ∙ either-assoc (holds r x y) (covered rs x y) (covered ss x y)
+    ap (λ (p : Bool). holds r x y || p) (covered-append rs ss x y) ∙ sym (or-assoc (holds r x y) (covered rs x y) (covered ss x y))
 
 pub disjoint-more : (rs : List Rect) (r : Rect) → Disjoint rs → ((x y : ℕ) → T (holds r x y) → T (covered rs x y) → ⊥) → Disjoint (rs ++ r ∷ [])
 unfolding covered Disjoint
 disjoint-more [] r d h = (λ x y p q. q, tt)
 disjoint-more (r′ ∷ rs) r d h = (
-  λ x y p q. go x y p (either-true (covered rs x y) (holds r x y || false) (rw (covered-append rs (r ∷ []) x y) at q)),
-  disjoint-more rs r (d .1) (λ x y p q. h x y p (right-true (holds r′ x y) (covered rs x y) q)),
+  λ x y p q. go x y p (T-either (covered rs x y) (holds r x y || false) (rw (covered-append rs (r ∷ []) x y) at q)),
+  disjoint-more rs r (d .1) (λ x y p q. h x y p (T-right (holds r′ x y) (covered rs x y) q)),
 )
   where
     last : (p : Bool) → T (p || false) → T p
@@ -129,4 +114,4 @@ disjoint-more (r′ ∷ rs) r d h = (
 
     go : (x y : ℕ) → T (holds r′ x y) → T (covered rs x y) ⊎ T (holds r x y || false) → ⊥
     go x y p (inl q) = d .0 x y p q
-    go x y p (inr q) = h x y (last (holds r x y) q) (left-true (holds r′ x y) (covered rs x y) p)
+    go x y p (inr q) = h x y (last (holds r x y) q) (T-left (holds r′ x y) (covered rs x y) p)

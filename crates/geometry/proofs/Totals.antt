@@ -6,6 +6,7 @@ use native.Mathlib.Nat.{zero-add, mul-le-mul}
 use native.Mathlib.Omega.{arith}
 use lib.ListN.{length, getD, drop, length-drop}
 use Rattle.geometry.specs.declared.Rect.{Rect}
+use Rattle.geometry.specs.Sizes.{widest, largest, SmallList}
 use Rattle.geometry.specs.Layout.{coveredArea, rectsOf, Drawn}
 use Rattle.geometry.specs.Overlaps.{rectAt, common, overlap, overlapSum, stripSum, StripSmall}
 use Rattle.geometry.proofs.Overlaps.{overlap-is-area}
@@ -14,31 +15,31 @@ use Rattle.geometry.proofs.Tables.{three-at, rects-next, rects-end}
 -- a sum over a table, part of it formed: `total` is what the numbers before place i add
 pub record SoFar (f : List ℕ → ℕ) (t : List ℕ) (total i : ℕ) : Type 0 where
   pub whole : total + f (drop i t) ≡ f t
-  pub small : total ≤ 1099511627776 * i
+  pub small : total ≤ largest * i
   pub within : i ≤ length t
 
 pub so-far-start : (f : List ℕ → ℕ) (t : List ℕ) → SoFar f t 0 0
 so-far-start f t = record { whole = zero-add (f t); small = omega arith; within = omega arith }
 
-so-far-next : (f : List ℕ → ℕ) (t : List ℕ) (total i k v : ℕ) → SoFar f t total i → f (drop i t) ≡ v + f (drop (i + k) t) → v ≤ 1099511627776 → 1 ≤ k →
+so-far-next : (f : List ℕ → ℕ) (t : List ℕ) (total i k v : ℕ) → SoFar f t total i → f (drop i t) ≡ v + f (drop (i + k) t) → v ≤ largest → 1 ≤ k →
     i + k ≤ length t → SoFar f t (total + v) (i + k)
 so-far-next f t total i k v s e h p l = record { whole = omega (arith, e, s .whole); small = omega (arith, s .small); within = l }
 
 so-far-end : (f : List ℕ → ℕ) (t : List ℕ) (total i : ℕ) → SoFar f t total i → f (drop i t) ≡ 0 → total ≡ f t
 so-far-end f t total i s e = omega (arith, e, s .whole)
 
-pub small-product : (a b : ℕ) → a ≤ 1048576 → b ≤ 1048576 → a * b ≤ 1099511627776
+pub small-product : (a b : ℕ) → a ≤ widest → b ≤ widest → a * b ≤ largest
 small-product a b h k = mul-le-mul h k
 
 -- the product of two numbers fits 64 bits, by what each is equal to
-pub product-fits : (x y u v : ℕ) → x ≡ u → y ≡ v → u * v ≤ 1099511627776 → x * y < 2 ^ 64
+pub product-fits : (x y u v : ℕ) → x ≡ u → y ≡ v → u * v ≤ largest → x * y < 2 ^ 64
 product-fits x y u v p q h = rw (p, q) (omega arith)
 
 -- a span's part is no longer than the span's end
-common-small : (a b c d : ℕ) → b ≤ 1048576 → common a b c d ≤ 1048576
+common-small : (a b c d : ℕ) → b ≤ widest → common a b c d ≤ widest
 common-small a b c d h = omega arith
 
-pub overlap-small : (t : List ℕ) (i : ℕ) (b : Rect) → Drawn t → overlap (rectAt t i) b ≤ 1099511627776
+pub overlap-small : (t : List ℕ) (i : ℕ) (b : Rect) → SmallList t → overlap (rectAt t i) b ≤ largest
 overlap-small t i b d =
     small-product (common (getD t i 0) (getD t (i + 2) 0) (b .x1) (b .x2)) (common (getD t (i + 1) 0) (getD t (i + 3) 0) (b .y1) (b .y2))
     (common-small (getD t i 0) (getD t (i + 2) 0) (b .x1) (b .x2) (d .small (i + 2)))
@@ -51,7 +52,7 @@ unfolding overlapSum
 overlaps-next t b total i v d s h e =
     rw e
     (so-far-next (λ s. overlapSum (rectsOf s) b) t total i 4 (overlap (rectAt t i) b) s (ap (λ (rs : List Rect). overlapSum rs b) (rects-next t i h))
-    (overlap-small t i b d) (omega arith) (omega arith))
+    (overlap-small t i b (record { small = d .small })) (omega arith) (omega arith))
 
 pub overlaps-end : (t : List ℕ) (b : Rect) (total i : ℕ) → Drawn t → SoFar (λ s. overlapSum (rectsOf s) b) t total i → length t ≤ i + 3 →
     total ≡ coveredArea (rectsOf t) b
@@ -64,7 +65,7 @@ overlaps-end t b total i d s h =
 abbrev pub termAt : List ℕ → (i x1 x2 : ℕ) → ℕ
 termAt t i x1 x2 = common (getD t i 0) (getD t (i + 1) 0) x1 x2 * getD t (i + 2) 0
 
-pub term-small : (t : List ℕ) (i x1 x2 : ℕ) → StripSmall t → termAt t i x1 x2 ≤ 1099511627776
+pub term-small : (t : List ℕ) (i x1 x2 : ℕ) → StripSmall t → termAt t i x1 x2 ≤ largest
 term-small t i x1 x2 d =
     small-product (common (getD t i 0) (getD t (i + 1) 0) x1 x2) (getD t (i + 2) 0) (common-small (getD t i 0) (getD t (i + 1) 0) x1 x2 (d .small (i + 1)))
     (d .small (i + 2))

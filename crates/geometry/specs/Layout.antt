@@ -5,6 +5,7 @@ use mathlib.Core.List.{List, [], _∷_}
 use lib.Dec.{T, leb, ltb}
 use lib.ListN.{length, getD}
 use Rattle.geometry.specs.declared.Rect.{Rect}
+use Rattle.geometry.specs.Sizes.{widest, rectsRoom}
 use Rattle.geometry.specs.Count.{one-if, boxSum}
 
 -- whether a rectangle covers the unit square (x, y): its low sides belong to it, its high sides do not
@@ -44,6 +45,6 @@ rectsOf (a ∷ b ∷ c ∷ d ∷ s) = record { x1 = a; y1 = b; x2 = c; y2 = d } 
 -- what the code asks of a table of drawn rectangles: at most 1,024 and no corner past 2^20, for 64 bits, and no shared unit square, so that
 -- sums of overlaps count each square once
 pub record Drawn (table : List ℕ) : Type 0 where
-  pub few : length table ≤ 4096
-  pub small : (i : ℕ) → getD table i 0 ≤ 1048576
+  pub few : length table ≤ rectsRoom
+  pub small : (i : ℕ) → getD table i 0 ≤ widest
   pub apart : Disjoint (rectsOf table)

@@ -1,4 +1,5 @@
 pub mod Count
+pub mod Sizes
 pub mod Layout
 pub mod Extreme
 pub mod Overlaps

@@ -6,6 +6,7 @@ use mathlib.Core.Bool.{true, false}
 use mathlib.Core.List.{List, [], _∷_, _++_}
 use lib.Dec.{ltb}
 use lib.ListN.{length, getD}
+use Rattle.geometry.specs.Sizes.{widest, stripRoom}
 use Rattle.geometry.specs.declared.Rect.{Rect}
 
 -- the rectangle whose numbers stand from place i of a table
@@ -58,5 +59,5 @@ stripSum (a ∷ b ∷ h ∷ s) x1 x2 = common a b x1 x2 * h + stripSum s x1 x2
 
 -- what 64 bits ask of a strip: at most 1,024 rectangles, no number past 2^20
 pub record StripSmall (strip : List ℕ) : Type 0 where
-  pub few : length strip ≤ 3072
-  pub small : (i : ℕ) → getD strip i 0 ≤ 1048576
+  pub few : length strip ≤ stripRoom
+  pub small : (i : ℕ) → getD strip i 0 ≤ widest

@@ -3,10 +3,16 @@
 ghost use Prim.Native.Nat.{_+_, _*_, _≤_, _<_, min, max};
 ghost use mathlib.Core.Path.{_≡_};
 ghost use lib.ListN.{length, getD};
+ghost use Rattle.geometry.specs.Sizes.{SmallList};
 ghost use Rattle.geometry.specs.Layout.{rectsOf, coveredArea, sharesSquare, Drawn};
 ghost use Rattle.geometry.specs.Overlaps.{rectAt, common, overlap, part, rowsPart, columnsPart, stripOf, narrowed, stripSum, StripSmall};
 ghost use Rattle.buffers.specs.Written.{Written, Front};
 ghost use Rattle.geometry.specs.Extreme.{better, replaced};
+
+// How many rectangles may be drawn, and the numbers of so many in a table.
+pub const MOST_RECTS: usize = 1024;
+
+pub const RECTS_ROOM: usize = 4 * MOST_RECTS;
 
 // The unit squares from x1 to before x2 and from y1 to before y2: a drawn
 // rectangle, a window, a tile.
@@ -54,7 +60,7 @@ fn common_length(a: u64, b: u64, c: u64, d: u64) -> u64
 // The unit squares that the rectangle at place i of a table shares with a box.
 fn overlap_at(rects: &[u64], i: usize, b: Rect) -> u64
     requires { ⌜ i + 3 < length (now rects) ⌝ }
-    requires { ⌜ Drawn (now rects) ⌝ }
+    requires { ⌜ SmallList (now rects) ⌝ }
     ensures { λ r. ⌜ r ≡ overlap (rectAt (now (rects .entry)) i) b ⌝ }
 {
     let across = common_length(rects[i], rects[i + 2], b.x1, b.x2);

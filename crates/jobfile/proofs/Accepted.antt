@@ -10,12 +10,11 @@ use lib.Dec.{leb, ltb, lit≤}
 use lib.ListN.{length, getD, take, replicate, List·getD-eq-default}
 use lib.Seq.{take-at}
 use borrow.Author.Tests.{ltb-true, leb-true}
+use Rattle.laws.proofs.Tests.{le-or-lt, both}
 use Rattle.geometry.specs.declared.Rect.{Rect}
 use Rattle.geometry.specs.Layout.{Disjoint, Drawn}
-use Rattle.geometry.proofs.Counting.{le-or-lt}
 use Rattle.fill.specs.Eligible.{tile, fillableArea}
 use Rattle.fill.specs.Judge.{numberAt}
-use Rattle.spelling.proofs.Numerals.{both}
 use Rattle.fill.proofs.Loads.{tile-fillable}
 use Rattle.jobfile.specs.declared.Head.{Head}
 use Rattle.jobfile.specs.declared.Form.{Form}
@@ -25,7 +24,7 @@ use Rattle.jobfile.specs.Forms.{tileSide, tilesAcross}
 use Rattle.jobfile.specs.Faults.{Standing, fitsLayout}
 use Rattle.jobfile.specs.File.{accepted, outcomeOf}
 use Rattle.jobfile.specs.Acceptance.{Good, none, next, AcceptedFile}
-use Rattle.jobfile.specs.Held.{rectsRoom, tileCount, GoodShapes, Sound, tableOf, padded}
+use Rattle.jobfile.specs.Held.{shapesRoom, tileCount, GoodShapes, Sound, tableOf, padded}
 use Rattle.jobfile.proofs.Heads.{HeadFacts, head-facts, positive}
 use Rattle.jobfile.proofs.Tables.{length-table, rects-of-table, table-small}
 use Rattle.jobfile.proofs.Sound.{sound-after, sound-start}
@@ -115,8 +114,8 @@ accepted-facts file st e =
 pub padded-front : (n : ℕ) (s : List ℕ) → take (length s) (padded n s) ≡ s
 padded-front n s = take-at s (replicate (n - length s) 0) (length s) refl
 
-pub table-front : (rs : List Rect) → take (4 * length rs) (padded rectsRoom (tableOf rs)) ≡ tableOf rs
-table-front rs = take-at (tableOf rs) (replicate (rectsRoom - length (tableOf rs)) 0) (4 * length rs) (length-table rs)
+pub table-front : (rs : List Rect) → take (4 * length rs) (padded shapesRoom (tableOf rs)) ≡ tableOf rs
+table-front rs = take-at (tableOf rs) (replicate (shapesRoom - length (tableOf rs)) 0) (4 * length rs) (length-table rs)
 
 -- ---- an amount is at most its tile's area
 

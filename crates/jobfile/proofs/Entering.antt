@@ -23,7 +23,7 @@ use Rattle.jobfile.specs.declared.Turn.the-variants.{Before, Shapes, Fil
 use Rattle.jobfile.specs.Limits.{unitLimits}
 use Rattle.jobfile.specs.Forms.{tilesAcross, agrees}
 use Rattle.jobfile.specs.Faults.{Standing, beforeHead, noHead, inTurn, lineFault, standsAfter}
-use Rattle.jobfile.specs.Held.{rectsRoom, amountsRoom, tileCount, standing, GoodHead, Sound, Held, TileIn, withShape, Entered}
+use Rattle.jobfile.specs.Held.{shapesRoom, amountsRoom, tileCount, standing, GoodHead, Sound, Held, TileIn, withShape, Entered}
 use Rattle.jobfile.proofs.Heads.{agreement}
 use Rattle.jobfile.proofs.Tables.{stored-rects, stored-behind, stored-length, zeros, take-zeros, drop-zeros, zeros-later}
 use Rattle.jobfile.proofs.Faultless.{check-passes, NoFault, no-fault, no-shape-fault, NoFillFault, no-fill-fault}
@@ -49,14 +49,14 @@ held-count s rects amounts k =
 
 -- before the head both tables are all 0
 record Empty (s : State) (rects amounts : List ℕ) : Type 0 where
-  pub rects-zero : rects ≡ zeros rectsRoom
+  pub rects-zero : rects ≡ zeros shapesRoom
   pub amounts-zero : amounts ≡ zeros amountsRoom
 
 empty-before : (s : State) (rects amounts : List ℕ) → Held s rects amounts → s .turn ≡ Before → Empty s rects amounts
 unfolding rectsOf
 empty-before s rects amounts k e =
     record {
-      rects-zero = subst (λ (n : ℕ). drop (4 * n) rects ≡ zeros (rectsRoom - 4 * n)) none (k .behind);
+      rects-zero = subst (λ (n : ℕ). drop (4 * n) rects ≡ zeros (shapesRoom - 4 * n)) none (k .behind);
       amounts-zero = subst (λ (h : Head). drop (tileCount h) amounts ≡ zeros (amountsRoom - tileCount h)) bare (k .beyond);
     }
   where
@@ -135,11 +135,11 @@ module _ (s : State) (rects amounts : List ℕ) (k : Held s rects amounts) where
       space : 4 * s .count + 4 ≤ length rects
       space = omega (arith, shape-room r e, k .room)
 
-      later : drop (4 * suc (s .count)) rects ≡ zeros (rectsRoom - 4 * suc (s .count))
+      later : drop (4 * suc (s .count)) rects ≡ zeros (shapesRoom - 4 * suc (s .count))
       later =
           let a : 4 * suc (s .count) ≡ 4 * s .count + 4 = omega arith in
-          let b : rectsRoom - 4 * s .count - 4 ≡ rectsRoom - (4 * s .count + 4) = omega arith in
-          rw a (zeros-later rects (4 * s .count) 4 (rectsRoom - 4 * s .count) (k .behind) ∙ ap zeros b)
+          let b : shapesRoom - 4 * s .count - 4 ≡ shapesRoom - (4 * s .count + 4) = omega arith in
+          rw a (zeros-later rects (4 * s .count) 4 (shapesRoom - 4 * s .count) (k .behind) ∙ ap zeros b)
 
   fill-good : (i j p : ℕ) → lineFault unitLimits (standing s rects amounts) (Fill i j p) ≡ 0 → NoFillFault (standing s rects amounts) i j p
   fill-good i j p e = no-fill-fault (standing s rects amounts) i j p (no-fault unitLimits (standing s rects amounts) (Fill i j p) e .own)

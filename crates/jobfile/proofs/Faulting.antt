@@ -11,6 +11,7 @@ use lib.ListN.{length, getD, take}
 use lib.Seq.{length-take-le, getD-take}
 use borrow.Author.Tests.{lt-ltb, le-ltb, le-leb, lt-leb, eq-eqb, ne-eqb}
 use Rattle.geometry.specs.declared.Rect.{Rect}
+use Rattle.geometry.specs.Sizes.{widest}
 use Rattle.geometry.specs.Layout.{rectsOf, sharesSquare}
 use Rattle.fill.specs.Eligible.{tile, fillableArea}
 use Rattle.fill.specs.Judge.{tileIndex, numberAt}
@@ -184,7 +185,7 @@ module _ (s : State) (rects amounts : List ℕ) (f : Form) where
   fill-headed i j p k e t = k .sound .headed (after-head (s .turn) f t (λ h q. let z : _≡_ {A = ℕ} 0 1 = cc in omega arith))
 
 -- what a tile's corners ask
-pub tile-corners : (h : Head) (i j d : ℕ) → GoodHead h → TileIn h i j → d ≡ tileSide h → (suc i * d ≤ 1048576) × (suc j * d ≤ 1048576)
+pub tile-corners : (h : Head) (i j d : ℕ) → GoodHead h → TileIn h i j → d ≡ tileSide h → (suc i * d ≤ widest) × (suc j * d ≤ widest)
 tile-corners h i j d g k e = (rw e (le-trans (tile-end h i f (k .column)) (lit≤ tt)), rw e (le-trans (tile-end h j f (k .row)) (lit≤ tt)))
   where
     f : HeadFacts h

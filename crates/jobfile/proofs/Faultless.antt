@@ -10,7 +10,7 @@ use Rattle.geometry.specs.declared.Rect.{Rect}
 use Rattle.geometry.specs.Layout.{sharesSquare}
 use Rattle.fill.specs.Eligible.{tile, fillableArea}
 use Rattle.fill.specs.Judge.{numberAt}
-use Rattle.spelling.proofs.Numerals.{both}
+use Rattle.laws.proofs.Tests.{both}
 use Rattle.jobfile.specs.declared.Form.{Form}
 use Rattle.jobfile.specs.Limits.{Limits}
 use Rattle.jobfile.specs.Forms.{inRange, tileSide, tilesAcross}

@@ -6,7 +6,7 @@ use native.Mathlib.Nat.{div-add-mod', mul-comm, mul-le-mul-right, le-trans, le-o
 use native.Mathlib.Omega.{arith}
 use lib.Dec.{leb, eqb}
 use borrow.Author.Tests.{leb-true, eqb-true}
-use Rattle.spelling.proofs.Numerals.{both}
+use Rattle.laws.proofs.Tests.{both}
 use Rattle.jobfile.specs.declared.Head.{Head}
 use Rattle.jobfile.specs.Limits.{Limits, unitLimits}
 use Rattle.jobfile.specs.Forms.{within, headInRange, tileSide, tilesAcross, agrees}

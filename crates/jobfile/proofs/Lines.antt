@@ -25,7 +25,7 @@ use Rattle.jobfile.specs.Limits.{Limits, unitLimits}
 use Rattle.jobfile.specs.Forms.{formOf}
 use Rattle.jobfile.specs.Faults.{Standing, beforeHead, noHead, lineFault, standsAfter}
 use Rattle.jobfile.specs.File.{Outcome, refused, atEnd, afterLast, readLines, outcomeOf}
-use Rattle.jobfile.specs.Held.{rectsRoom, amountsRoom, tileCount, standing, Held, Entered, firstLine, firstFault, LineRead, endFault, jobOf, tableOf, padded, asJob}
+use Rattle.jobfile.specs.Held.{shapesRoom, amountsRoom, tileCount, standing, Held, Entered, firstLine, firstFault, LineRead, endFault, jobOf, tableOf, padded, asJob}
 use Rattle.jobfile.proofs.Tables.{table-of-rects, zeros}
 use Rattle.jobfile.proofs.Sound.{sound-start}
 use Rattle.jobfile.proofs.Entering.{held-count}
@@ -149,7 +149,7 @@ pub record SoFar (file : List ℕ) (s : State) (rects amounts : List ℕ) (line 
   pub lines : line ≤ at + 1
   pub whole : readLines unitLimits beforeHead 1 (parts file) ≡ readLines unitLimits (standing s rects amounts) line (parts (drop at file))
 
-pub so-far-start : (file rects amounts : List ℕ) (h : Head) → rects ≡ zeros rectsRoom → amounts ≡ zeros amountsRoom → h ≡ noHead →
+pub so-far-start : (file rects amounts : List ℕ) (h : Head) → rects ≡ zeros shapesRoom → amounts ≡ zeros amountsRoom → h ≡ noHead →
     SoFar file (record { turn = Before; head = h; count = 0 }) rects amounts 1 0
 unfolding rectsOf
 so-far-start file rects amounts h er ea eh =
@@ -218,9 +218,9 @@ filled : (n k : ℕ) (l t : List ℕ) → take k l ≡ t → length l ≡ n → 
 filled n k l t e w h d =
     sym (take-append-drop k l) ∙ ap₂ _++_ e (d ∙ ap (λ (m : ℕ). zeros (n - m)) (sym (ap length (sym e) ∙ length-take-le k l (omega (arith, w)))))
 
-held-rects : (s : State) (rects amounts : List ℕ) → Held s rects amounts → rects ≡ padded rectsRoom (tableOf (rectsOf (take (4 * s .count) rects)))
+held-rects : (s : State) (rects amounts : List ℕ) → Held s rects amounts → rects ≡ padded shapesRoom (tableOf (rectsOf (take (4 * s .count) rects)))
 held-rects s rects amounts k =
-    filled rectsRoom (4 * s .count) rects (tableOf (rectsOf (take (4 * s .count) rects)))
+    filled shapesRoom (4 * s .count) rects (tableOf (rectsOf (take (4 * s .count) rects)))
     (sym (table-of-rects (s .count) (take (4 * s .count) rects) (length-take-le (4 * s .count) rects (omega (arith, k .count, k .room)))))
     (k .room) (omega (arith, k .count)) (k .behind)
 

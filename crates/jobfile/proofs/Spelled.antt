@@ -8,11 +8,12 @@ use native.Mathlib.Omega.{arith}
 use lib.Dec.{eqb}
 use borrow.Author.Tests.{ne-eqb, eqb-true, eqb-false, not-true}
 use lib.ListN.{length, getD}
+use Rattle.laws.proofs.Tests.{both}
 use Rattle.spelling.specs.Text.{bytes}
 use Rattle.spelling.specs.Decimal.{decimal, EachShort, isDigit}
 use Rattle.spelling.specs.Pattern.{isPlace, spell, readAs}
 use Rattle.spelling.specs.Scanning.{places}
-use Rattle.spelling.proofs.Numerals.{both, allDigits, digit-from, all-decimal}
+use Rattle.spelling.proofs.Numerals.{allDigits, digit-from, all-decimal}
 use Rattle.spelling.proofs.Patterns.{spell-place, spell-byte, read-same, read-other}
 use Rattle.spelling.proofs.Inverse.{Spelled, read-is-spelled, wellFormed, spelled-is-read}
 use Rattle.jobfile.specs.declared.Form.{Form}

@@ -9,14 +9,14 @@ use native.Mathlib.Nat.{le-trans}
 use lib.Dec.{lit≤}
 use lib.ListN.{length, getD, take, drop, replicate, length-append}
 use lib.Seq.{take-at, drop-at, drop-drop, sets-eq, length-sets, length-take-le}
+use Rattle.laws.proofs.Tests.{both}
 use Rattle.geometry.specs.declared.Rect.{Rect}
 use Rattle.geometry.specs.Layout.{rectsOf, Disjoint, Drawn}
 use Rattle.geometry.proofs.Tables.{rects-more}
-use Rattle.spelling.proofs.Numerals.{both}
 use Rattle.jobfile.specs.declared.Head.{Head}
 use Rattle.jobfile.specs.Limits.{Limits, unitLimits}
 use Rattle.jobfile.specs.Forms.{within, rectInRange}
-use Rattle.jobfile.specs.Held.{rectsRoom, GoodShapes, withShape, tableOf}
+use Rattle.jobfile.specs.Held.{shapesRoom, GoodShapes, withShape, tableOf}
 use Rattle.jobfile.proofs.Heads.{Between, between}
 
 abbrev pub fourOf : Rect → List ℕ
@@ -133,7 +133,7 @@ table-small h (r ∷ rs) g (suc (suc (suc zero))) = corners unitLimits r (g .0) 
 table-small h (r ∷ rs) g (suc (suc (suc (suc i)))) = table-small h rs (g .2) i
 
 -- the rectangles so far are a drawn table
-pub drawn-so-far : (h : Head) (l : List ℕ) (c : ℕ) → 4 * c ≤ rectsRoom → length l ≡ rectsRoom → GoodShapes h (rectsOf (take (4 * c) l)) →
+pub drawn-so-far : (h : Head) (l : List ℕ) (c : ℕ) → 4 * c ≤ shapesRoom → length l ≡ shapesRoom → GoodShapes h (rectsOf (take (4 * c) l)) →
     Disjoint (rectsOf (take (4 * c) l)) → Drawn (take (4 * c) l)
 drawn-so-far h l c n e g d =
     record {

@@ -25,8 +25,8 @@ use Rattle.jobfile.specs.Faults.{Standing, beforeHead, noHead, fitsLayou
 use Rattle.jobfile.specs.File.{Outcome, refused, accepted}
 
 -- the numbers that the two tables have room for: four to a rectangle, one to a tile
-abbrev pub rectsRoom : ℕ
-rectsRoom = 4 * unitLimits .shapes
+abbrev pub shapesRoom : ℕ
+shapesRoom = 4 * unitLimits .shapes
 
 abbrev pub amountsRoom : ℕ
 amountsRoom = unitLimits .tiles * unitLimits .tiles
@@ -64,11 +64,11 @@ pub record Sound (st : Standing) : Type 0 where
 
 -- a state and its tables hold what stands: 0 behind the rectangles and behind the amounts
 pub record Held (s : State) (rects amounts : List ℕ) : Type 0 where
-  pub room : length rects ≡ rectsRoom
+  pub room : length rects ≡ shapesRoom
   pub cells : length amounts ≡ amountsRoom
   pub count : s .count ≤ unitLimits .shapes
   pub tiles : tileCount (s .head) ≤ amountsRoom
-  pub behind : drop (4 * s .count) rects ≡ replicate (rectsRoom - 4 * s .count) 0
+  pub behind : drop (4 * s .count) rects ≡ replicate (shapesRoom - 4 * s .count) 0
   pub beyond : drop (tileCount (s .head)) amounts ≡ replicate (amountsRoom - tileCount (s .head)) 0
   pub sound : Sound (standing s rects amounts)
 
@@ -132,14 +132,14 @@ padded n s = s ++ replicate (n - length s) 0
 -- the outcome as the reader returns it
 abbrev pub asJob : Outcome → Job
 asJob (refused number line) =
-    record { fault = number; line = line; head = noHead; count = 0; rects = replicate rectsRoom 0; amounts = replicate amountsRoom 0 }
+    record { fault = number; line = line; head = noHead; count = 0; rects = replicate shapesRoom 0; amounts = replicate amountsRoom 0 }
 asJob (accepted st) =
     record {
       fault = 0;
       line = 0;
       head = st .head;
       count = length (st .shapes);
-      rects = padded rectsRoom (tableOf (st .shapes));
+      rects = padded shapesRoom (tableOf (st .shapes));
       amounts = padded amountsRoom (st .amounts);
     }
 

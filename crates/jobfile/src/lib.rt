@@ -11,7 +11,7 @@ pub use forms::tiles_across;
 use geometry::Rect;
 use limits::AMOUNTS_ROOM;
 use limits::MOST_BYTES;
-use limits::RECTS_ROOM;
+use limits::SHAPES_ROOM;
 use reader::read_lines;
 use reader::refusal;
 ghost use mathlib.Core.Path.{_≡_};
@@ -56,7 +56,7 @@ pub struct Job {
     pub line: u64,
     pub head: Head,
     pub count: usize,
-    pub rects: [u64; RECTS_ROOM],
+    pub rects: [u64; SHAPES_ROOM],
     pub amounts: [u64; AMOUNTS_ROOM],
 }
 
@@ -90,7 +90,7 @@ pub fn read(file: &[u8]) -> Job
     if MOST_BYTES < file.len() {
         return refusal(1, 0);
     }
-    let mut rects = [0u64; RECTS_ROOM];
+    let mut rects = [0u64; SHAPES_ROOM];
     let mut amounts = [0u64; AMOUNTS_ROOM];
     let end = read_lines(file, &mut rects, &mut amounts);
     let fault = end.fault;

@@ -7,7 +7,7 @@ pub(crate) const MOST_DIGITS: usize = 10;
 pub(crate) const MOST_SHAPES: usize = 256;
 
 // The table of rectangles, four numbers each.
-pub(crate) const RECTS_ROOM: usize = 4 * MOST_SHAPES;
+pub(crate) const SHAPES_ROOM: usize = 4 * MOST_SHAPES;
 
 // N, W, B and corners.
 pub(crate) const MOST_SIDE: u64 = 65535;

@@ -9,7 +9,7 @@ use crate::forms::form_of;
 use crate::held::enter;
 use crate::held::no_head;
 use crate::limits::AMOUNTS_ROOM;
-use crate::limits::RECTS_ROOM;
+use crate::limits::SHAPES_ROOM;
 use spelling::first_line;
 ghost use mathlib.Core.Path.{_≡_};
 ghost use lib.ListN.{replicate};
@@ -17,7 +17,7 @@ ghost use Rattle.spelling.specs.Text.{parts};
 ghost use Rattle.jobfile.specs.Limits.{unitLimits};
 ghost use Rattle.jobfile.specs.Faults.{beforeHead};
 ghost use Rattle.jobfile.specs.File.{refused, readLines};
-ghost use Rattle.jobfile.specs.Held.{rectsRoom, amountsRoom, Held, LineRead, endFault, jobOf, asJob};
+ghost use Rattle.jobfile.specs.Held.{shapesRoom, amountsRoom, Held, LineRead, endFault, jobOf, asJob};
 
 // Reads the first line of what is left of a file.
 fn read_line(rest: &[u8], s: State, rects: &mut [u64], amounts: &mut [u64]) -> Step
@@ -63,7 +63,7 @@ fn end_fault(turn: Turn) -> u64
 
 // Reads all lines of a file into cleared tables.
 pub(crate) fn read_lines(file: &[u8], rects: &mut [u64], amounts: &mut [u64]) -> Ending
-    requires { ⌜ (now rects ≡ replicate rectsRoom 0) × (now amounts ≡ replicate amountsRoom 0) ⌝ }
+    requires { ⌜ (now rects ≡ replicate shapesRoom 0) × (now amounts ≡ replicate amountsRoom 0) ⌝ }
     ensures { λ e. ⌜ jobOf e (now (rects .exit)) (now (amounts .exit)) ≡ asJob (readLines unitLimits beforeHead 1 (parts (now (file .entry)))) ⌝ }
 {
     let mut s = State {
@@ -103,7 +103,7 @@ pub(crate) fn refusal(number: u64, line: u64) -> Job
         line,
         head: no_head(),
         count: 0,
-        rects: [0u64; RECTS_ROOM],
+        rects: [0u64; SHAPES_ROOM],
         amounts: [0u64; AMOUNTS_ROOM],
     }
 }

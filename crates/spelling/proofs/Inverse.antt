@@ -8,10 +8,11 @@ use native.Mathlib.Omega.{arith}
 use borrow.Author.Tests.{leb-true, eqb-true, eqb-false, not-true}
 use lib.Dec.{leb, eqb}
 use lib.ListN.{length}
+use Rattle.laws.proofs.Tests.{both}
 use Rattle.spelling.specs.Decimal.{decimal, EachShort, isDigit, digitsOf, pastDigits, valueFrom, sameBytes, isNumeral}
 use Rattle.spelling.specs.Pattern.{isPlace, spell, withNumber, readAs}
 use Rattle.spelling.specs.Scanning.{places}
-use Rattle.spelling.proofs.Numerals.{both, value-decimal, all-decimal, decimal-numeral, same-equal, digits-append, digits-then-past}
+use Rattle.spelling.proofs.Numerals.{value-decimal, all-decimal, decimal-numeral, same-equal, digits-append, digits-then-past}
 use Rattle.spelling.proofs.Patterns.{places-place, spell-place, read-number, read-no-number, places-byte, spell-byte, read-same, read-other, read-short}
 
 -- ---- what is read is spelled so

@@ -10,6 +10,7 @@ use native.Mathlib.Omega.{arith}
 use borrow.Author.Tests.{lt-ltb, le-ltb, le-leb, leb-true, eqb-true, eqb-false, eq-eqb, ne-eqb, not-true}
 use lib.Dec.{leb, eqb, leb·zero}
 use lib.ListN.{length, getD, drop, length-append, List·getD-append}
+use Rattle.laws.proofs.Tests.{both}
 use Rattle.spelling.specs.Decimal.{decimalIn, decimal, isDigit, digitsOf, pastDigits, valueFrom, sameBytes, spells, isNumeral}
 
 -- ---- the two equations of `decimal`, and induction by them
@@ -92,10 +93,6 @@ decimal-injective m n e = sym (value-decimal m) ∙ ap (valueFrom 0) e ∙ value
 unfoldable pub allDigits : List ℕ → Bool
 allDigits [] = true
 allDigits (b ∷ s) = isDigit b && allDigits s
-
-pub both : (x y : Bool) → (x && y) ≡ true → (x ≡ true) × (y ≡ true)
-both true y e = (refl, e)
-both false y e = absurd (false≢true e)
 
 pub digit-from : (b : ℕ) → isDigit b ≡ true → (48 ≤ b) × (b ≤ 57)
 digit-from b e = let k = both (leb 48 b) (leb b 57) e in (leb-true 48 b (k .0), leb-true b 57 (k .1))

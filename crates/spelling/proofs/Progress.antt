@@ -165,9 +165,9 @@ module _ (most : ℕ) (p s table : List ℕ) (count at j : ℕ) (inv : ReadTo mo
     unfolding readAs
     bytes-left h = refused (ap₂ (readAs most) done (drop-cons s at 0 h))
 
-    pub all-read : length s ≤ at → record { ok = true; count = count; values = table } ≡ asReading (readAs most p s)
+    pub all-read : length s ≤ at → record { ok = true; values = table } ≡ asReading (readAs most p s)
     unfolding readAs
     all-read h =
         sym
         (ap asReading (inv .whole ∙ ap (prefixed (inv .numbers)) (ap₂ (readAs most) done (drop-of-length-le s h)))
-        ∙ rw (append-nil (inv .numbers), ← inv .filled, ← inv .counted) refl)
+        ∙ rw (append-nil (inv .numbers), ← inv .filled) refl)

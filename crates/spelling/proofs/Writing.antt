@@ -9,11 +9,12 @@ use borrow.Author.Tests.{ltb-true, ltb-false}
 use lib.Dec.{ltb}
 use lib.ListN.{length, getD, set, drop, length-append, drop-of-length-le}
 use lib.Seq.{drop-cons}
+use Rattle.laws.proofs.Tests.{both}
 use Rattle.spelling.specs.Decimal.{decimal}
 use Rattle.buffers.specs.Written.{written, Written}
 use Rattle.buffers.proofs.Writing.{written-none, written-length, written-then, written-chain, one-stored}
 use Rattle.spelling.specs.Pattern.{isPlace, spell}
-use Rattle.spelling.proofs.Numerals.{both, decimal-small, decimal-large, decimal-nonempty}
+use Rattle.spelling.proofs.Numerals.{decimal-small, decimal-large, decimal-nonempty}
 use Rattle.spelling.proofs.Patterns.{spell-place, spell-byte, spell-none}
 
 -- ---- a number, its last digit behind the others

@@ -36,5 +36,5 @@ places (c ∷ p) = elim (isPlace c) [ true ↦ suc (places p) | false ↦ places
 
 -- what was read, as the code returns it: the numbers in order, 0 behind them and everywhere where nothing was read
 abbrev pub asReading : Option (List ℕ) → Reading
-asReading none = record { ok = false; count = 0; values = replicate 8 0 }
-asReading (some ns) = record { ok = true; count = length ns; values = ns ++ replicate (8 - length ns) 0 }
+asReading none = record { ok = false; values = replicate 8 0 }
+asReading (some ns) = record { ok = true; values = ns ++ replicate (8 - length ns) 0 }

@@ -15,7 +15,6 @@ ghost use Rattle.buffers.specs.Written.{Written};
 // than eight.
 pub struct Reading {
     pub ok: bool,
-    pub count: usize,
     pub values: [u64; 8],
 }
 
@@ -123,7 +122,6 @@ fn not_read() -> Reading
 {
     Reading {
         ok: false,
-        count: 0,
         values: [0u64; 8],
     }
 }
@@ -163,11 +161,7 @@ pub fn read_as(line: &[u8], pattern: &[u8], digits: usize) -> Reading
     if at < line.len() {
         return not_read();
     }
-    Reading {
-        ok: true,
-        count,
-        values,
-    }
+    Reading { ok: true, values }
 }
 
 // The ASCII digit of a value below 10.

@@ -12,7 +12,7 @@ use Rattle.jobfile.specs.Forms.{tilesAcross}
 use Rattle.jobfile.specs.Faults.{Standing}
 use Rattle.jobfile.specs.File.{Outcome, refused, accepted, outcomeOf}
 use Rattle.jobfile.specs.Acceptance.{FirstFault, faulty, unfed, unended, RefusedFile, long, lines}
-use Rattle.jobfile.specs.Held.{rectsRoom, amountsRoom, asJob, tableOf, padded}
+use Rattle.jobfile.specs.Held.{shapesRoom, amountsRoom, asJob, tableOf, padded}
 use Rattle.jobfile.proofs.Tables.{length-table, rects-of-table}
 use Rattle.jobfile.proofs.Files.{acceptance}
 use Rattle.jobfile.proofs.Accepted.{AcceptedFacts, accepted-facts, padded-front, table-front, amount-room}
@@ -83,7 +83,7 @@ facts-readable : (st : Standing) → AcceptedFacts st → Readable (asJob (accep
 facts-readable st f =
     record {
       shapes = f .few;
-      room = padded-length rectsRoom (tableOf (st .shapes)) (omega (arith, length-table (st .shapes), f .few));
+      room = padded-length shapesRoom (tableOf (st .shapes)) (omega (arith, length-table (st .shapes), f .few));
       cells = padded-length amountsRoom (st .amounts) (omega (arith, f .sized, tiles-few (tilesAcross (st .head)) (f .head .tiles-most)));
       tiles = f .head .tiles-most;
       ready = rw (table-front (st .shapes), amounts-front st f) (facts-ready st f);

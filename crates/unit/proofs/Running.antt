@@ -6,19 +6,22 @@ use native.Mathlib.Nat.{mul-le-mul}
 use native.Mathlib.Omega.{arith}
 use lib.ListN.{take}
 use Rattle.geometry.specs.declared.Sense.the-variants.{Greatest}
+use Rattle.geometry.specs.Sizes.{largest}
 use Rattle.geometry.specs.Layout.{rectsOf}
 use Rattle.extremes.specs.declared.Extremes.{Extremes}
 use Rattle.extremes.specs.Exact.{exactRun}
 use Rattle.zoom.specs.declared.Quick.{Quick}
 use Rattle.zoom.specs.Run.{quickRun, density}
-use Rattle.zoom.specs.Limits.{areaRoom, Measurable}
+use Rattle.zoom.specs.Limits.{Measurable}
 use Rattle.zoom.proofs.Bracket.{quick-run-small}
 use Rattle.fill.specs.declared.Plan.{Plan}
 use Rattle.fill.specs.declared.Verdict.{Verdict}
 use Rattle.fill.specs.Judge.{verdictOf}
 use Rattle.fill.specs.Limits.{Planned}
 use Rattle.jobfile.specs.declared.Head.{Head}
+use Rattle.jobfile.specs.Limits.{unitLimits}
 use Rattle.jobfile.specs.Forms.{tileSide, tilesAcross}
+use Rattle.jobfile.specs.Held.{amountsRoom}
 use Rattle.unit.specs.declared.run.Answer.{Answer}
 use Rattle.unit.specs.Answering.{answerOf}
 use Rattle.unit.specs.Ready.{Ready, standingOf}
@@ -39,8 +42,8 @@ module _ (h : Head) (rects amounts : List ℕ) where
       record {
         some-window = r .some-window;
         window-small = omega (arith, r .window-fits, r .small);
-        floor-small = subst⁻¹ (λ (p : Quick). p .last .named .area ≤ areaRoom) e (s .named);
-        ceiling-small = subst⁻¹ (λ (p : Quick). p .last .limit ≤ areaRoom) e (s .limit);
+        floor-small = subst⁻¹ (λ (p : Quick). p .last .named .area ≤ largest) e (s .named);
+        ceiling-small = subst⁻¹ (λ (p : Quick). p .last .limit ≤ largest) e (s .limit);
       }
 
   pub answer-is : (x : Extremes) (q : Quick) (d : ℕ) (v : Verdict) (tiles side : ℕ) → x ≡ exactRun (rectsOf rects) (h .size) (h .window) → q ≡ quick →
@@ -63,6 +66,6 @@ module _ (h : Head) (rects amounts : List ℕ) where
       a ≡ answerOf (standingOf h rects (take (tilesAcross h * tilesAcross h) amounts))
   run-at k e p = rw e at p
 
--- at most 4,096 tiles
-pub tiles-few : (t : ℕ) → t ≤ 64 → t * t ≤ 4096
-tiles-few t h = mul-le-mul {n₂ = 64} {m₂ = 64} h h
+-- no more tiles than the table of amounts has room for
+pub tiles-few : (t : ℕ) → t ≤ unitLimits .tiles → t * t ≤ amountsRoom
+tiles-few t h = mul-le-mul h h

@@ -3,6 +3,7 @@ use Prim.Native.Nat.{ℕ, _*_, _≤_}
 use mathlib.Core.Path.{_≡_}
 use mathlib.Core.List.{List}
 use lib.ListN.{length, take}
+use Rattle.geometry.specs.Sizes.{widest}
 use Rattle.geometry.specs.Layout.{Drawn, rectsOf}
 use Rattle.fill.specs.Limits.{Planned}
 use Rattle.jobfile.specs.declared.Head.{Head}
@@ -11,7 +12,7 @@ use Rattle.jobfile.specs.declared.Turn.the-variants.{Done}
 use Rattle.jobfile.specs.Limits.{unitLimits}
 use Rattle.jobfile.specs.Forms.{tilesAcross}
 use Rattle.jobfile.specs.Faults.{Standing}
-use Rattle.jobfile.specs.Held.{rectsRoom, amountsRoom, tileCount}
+use Rattle.jobfile.specs.Held.{shapesRoom, amountsRoom, tileCount}
 use Rattle.unit.specs.Answering.{planOf}
 
 -- what a head and the two tables stand for
@@ -23,7 +24,7 @@ pub record Ready (h : Head) (rects amounts : List ℕ) : Type 0 where
   pub drawn : Drawn rects
   pub some-window : 1 ≤ h .window
   pub window-fits : h .window ≤ h .size
-  pub small : h .size ≤ 1048576
+  pub small : h .size ≤ widest
   pub accurate : h .accuracy ≤ 1000
   pub planned : Planned rects amounts (planOf h)
 
@@ -40,7 +41,7 @@ jobStanding j = standingOf (j .head) (jobRects j) (jobAmounts j)
 -- a job that was read may be run
 pub record Readable (j : Job) : Type 0 where
   pub shapes : j .count ≤ unitLimits .shapes
-  pub room : length (j .rects) ≡ rectsRoom
+  pub room : length (j .rects) ≡ shapesRoom
   pub cells : length (j .amounts) ≡ amountsRoom
   pub tiles : tilesAcross (j .head) ≤ unitLimits .tiles
   pub ready : Ready (j .head) (jobRects j) (jobAmounts j)

@@ -15,8 +15,8 @@ exactRoom = 160
 abbrev pub endRoom : ℕ
 endRoom = 16
 
-abbrev pub levelRoom : ℕ
-levelRoom = 176
+abbrev pub bracketRoom : ℕ
+bracketRoom = 176
 
 abbrev pub densityRoom : ℕ
 densityRoom = 40
@@ -31,7 +31,7 @@ abbrev pub verdictRoom : ℕ
 verdictRoom = startRoom + 16
 
 abbrev pub answerRoom : ℕ
-answerRoom = exactRoom + (endRoom + levelRoom) + densityRoom + verdictRoom
+answerRoom = exactRoom + (endRoom + bracketRoom) + densityRoom + verdictRoom
 
 -- a text was written at a place, in at most `room` bytes
 pub record WrittenIn (room : ℕ) (before : List ℕ) (at : ℕ) (text after : List ℕ) (next : ℕ) : Type 0 where

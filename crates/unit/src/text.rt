@@ -11,7 +11,7 @@ ghost use mathlib.Core.List.{_++_};
 ghost use lib.ListN.{length};
 ghost use Rattle.spelling.specs.Pattern.{spell};
 ghost use Rattle.unit.specs.Answering.{exactLine, zoomHead, levelPart, zoomLine, densityLine, boundWord, failingStart, verdictLine, textOf};
-ghost use Rattle.unit.specs.Rendering.{exactRoom, endRoom, levelRoom, densityRoom, boundRoom, startRoom, verdictRoom, answerRoom, WrittenIn};
+ghost use Rattle.unit.specs.Rendering.{exactRoom, endRoom, bracketRoom, densityRoom, boundRoom, startRoom, verdictRoom, answerRoom, WrittenIn};
 
 // Writes a pattern's text where there is room for 20 digits to a number, the
 // most that 64 bits take.
@@ -58,8 +58,8 @@ fn write_end(end: End, out: &mut [u8], at: usize) -> usize
 }
 
 fn write_level(done: u64, last: Level, out: &mut [u8], at: usize) -> usize
-    requires { ⌜ at + levelRoom ≤ length (now out) ⌝ }
-    ensures { λ r. ⌜ WrittenIn levelRoom (now (out .entry)) at (levelPart done last) (now (out .exit)) r ⌝ }
+    requires { ⌜ at + bracketRoom ≤ length (now out) ⌝ }
+    ensures { λ r. ⌜ WrittenIn bracketRoom (now (out .entry)) at (levelPart done last) (now (out .exit)) r ⌝ }
 {
     let values = [
         done,
@@ -78,8 +78,8 @@ fn write_level(done: u64, last: Level, out: &mut [u8], at: usize) -> usize
 }
 
 fn write_quick(q: Quick, out: &mut [u8], at: usize) -> usize
-    requires { ⌜ at + (endRoom + levelRoom) ≤ length (now out) ⌝ }
-    ensures { λ r. ⌜ WrittenIn (endRoom + levelRoom) (now (out .entry)) at (zoomLine q) (now (out .exit)) r ⌝ }
+    requires { ⌜ at + (endRoom + bracketRoom) ≤ length (now out) ⌝ }
+    ensures { λ r. ⌜ WrittenIn (endRoom + bracketRoom) (now (out .entry)) at (zoomLine q) (now (out .exit)) r ⌝ }
 {
     let end = q.end;
     let last = q.last;

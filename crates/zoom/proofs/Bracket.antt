@@ -9,6 +9,7 @@ use native.Mathlib.Nat.{zero-mul, mul-le-mul-left}
 use native.Mathlib.Omega.{arith}
 use borrow.Author.Tests.{ltb-false, leb-true, leb-false, le-leb}
 use lib.Dec.{leb}
+use Rattle.laws.proofs.Tests.{le-or-lt}
 use Rattle.geometry.specs.declared.Rect.{Rect}
 use Rattle.geometry.specs.declared.Spot.{Spot}
 use Rattle.geometry.specs.declared.Sense.{Sense}
@@ -16,7 +17,7 @@ use Rattle.geometry.specs.declared.Sense.the-variants.{Greatest, Least}
 use Rattle.geometry.specs.Extreme.{better, spotAt, replaced, bestInRows, NoBetter}
 use Rattle.geometry.specs.Count.{sum, one-if}
 use Rattle.geometry.specs.Layout.{covered, coveredArea, windowBox}
-use Rattle.geometry.proofs.Counting.{le-or-lt, sum-cong, sum-zero, box-const}
+use Rattle.geometry.proofs.Counting.{sum-cong, sum-zero, box-const}
 use Rattle.geometry.proofs.Totals.{small-product}
 use Rattle.geometry.proofs.Overlaps.{area-small}
 use Rattle.geometry.proofs.Extremes.{better-self, step-better, step-skip}
@@ -27,7 +28,8 @@ use Rattle.zoom.specs.declared.End.the-variants.{Met}
 use Rattle.zoom.specs.declared.Level.{Level}
 use Rattle.zoom.specs.declared.Quick.{Quick}
 use Rattle.zoom.specs.Run.{lastLevel, levelStep, startsOn, bloated, shrunk, farArea, bestStart, levelOf, levelAt, lowEnd, highEnd, isMet, afterLevel, exactEnd, runFrom, quickRun}
-use Rattle.zoom.specs.Limits.{sideRoom, areaRoom, LevelSmall}
+use Rattle.geometry.specs.Sizes.{widest, largest}
+use Rattle.zoom.specs.Limits.{LevelSmall}
 use Rattle.zoom.specs.Grid.{AtStart}
 use Rattle.zoom.proofs.Folds.{no-better-trans, replaced-stays, replaced-area, rows-are, rows-see, rows-replace}
 use Rattle.zoom.proofs.Steps.{step-halves, step-positive}
@@ -365,26 +367,26 @@ empty-layout s n w e v =
 
 -- ---- bounds
 
-box-small : (rs : List Rect) (b : Rect) → b .x2 - b .x1 ≤ sideRoom → b .y2 - b .y1 ≤ sideRoom → coveredArea rs b ≤ areaRoom
+box-small : (rs : List Rect) (b : Rect) → b .x2 - b .x1 ≤ widest → b .y2 - b .y1 ≤ widest → coveredArea rs b ≤ largest
 box-small rs b h k = omega (arith, area-small rs b, small-product (b .x2 - b .x1) (b .y2 - b .y1) h k)
 
-far-small : (s : Sense) (rs : List Rect) (n w t x y : ℕ) → n ≤ sideRoom → w ≤ n → farArea s rs n w t x y ≤ areaRoom
+far-small : (s : Sense) (rs : List Rect) (n w t x y : ℕ) → n ≤ widest → w ≤ n → farArea s rs n w t x y ≤ largest
 far-small Greatest rs n w t x y h k = box-small rs (bloated n w t x y) (omega arith) (omega arith)
 far-small Least rs n w t x y h k = box-small rs (shrunk w t x y) (omega arith) (omega arith)
 
-placed-small : (rs : List Rect) (n w : ℕ) (b : Spot) → n ≤ sideRoom → w ≤ n → Placed rs n w b → b .area ≤ areaRoom
+placed-small : (rs : List Rect) (n w : ℕ) (b : Spot) → n ≤ widest → w ≤ n → Placed rs n w b → b .area ≤ largest
 placed-small rs n w b h k p = rw (p .area) (box-small rs (windowBox w (b .x) (b .y)) (omega arith) (omega arith))
 
-pub level-small : (s : Sense) (rs : List Rect) (n w t : ℕ) (b : Spot) → n ≤ sideRoom → w ≤ n → 1 ≤ t → AtStart rs n w t b → LevelSmall (levelOf s rs n w t b)
+pub level-small : (s : Sense) (rs : List Rect) (n w t : ℕ) (b : Spot) → n ≤ widest → w ≤ n → 1 ≤ t → AtStart rs n w t b → LevelSmall (levelOf s rs n w t b)
 unfolding levelOf
 level-small s rs n w t b h k p a =
     record {
       named = placed-small rs n w (levelOf s rs n w t b .named) h k (start-placed rs n w t (levelOf s rs n w t b .named) p (level-at-start s rs n w t b a));
-      limit = rows-are s (farArea s rs n w t) t (startsOn n w t) (startsOn n w t) (spotAt (farArea s rs n w t) 0 0) (λ (c : Spot). c .area ≤ areaRoom)
+      limit = rows-are s (farArea s rs n w t) t (startsOn n w t) (startsOn n w t) (spotAt (farArea s rs n w t) 0 0) (λ (c : Spot). c .area ≤ largest)
           (far-small s rs n w t 0 0 h k) (λ i j p q. far-small s rs n w t (i * t) (j * t) h k);
     }
 
-pub quick-run-small : (s : Sense) (rs : List Rect) (n w e v : ℕ) → 1 ≤ w → w ≤ n → n ≤ sideRoom → LevelSmall (quickRun s rs n w e v .last)
+pub quick-run-small : (s : Sense) (rs : List Rect) (n w e v : ℕ) → 1 ≤ w → w ≤ n → n ≤ widest → LevelSmall (quickRun s rs n w e v .last)
 quick-run-small s rs n w e v p q h =
     quick-run-ends LevelSmall s rs n w e v (λ j l. each-level s rs n w p LevelSmall j l (λ b r a. level-small s rs n w (levelStep w j) b h q r a))
     (λ j l. record {

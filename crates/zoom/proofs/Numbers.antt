@@ -6,18 +6,19 @@ use Rattle.geometry.specs.declared.Sense.{Sense}
 use Rattle.geometry.specs.declared.Sense.the-variants.{Greatest, Least}
 use Rattle.zoom.specs.declared.Level.{Level}
 use Rattle.zoom.specs.Run.{lowEnd, highEnd}
-use Rattle.zoom.specs.Limits.{sideRoom, areaRoom, LevelSmall}
+use Rattle.geometry.specs.Sizes.{widest, largest}
+use Rattle.zoom.specs.Limits.{LevelSmall}
 
 pub record EndsSmall (s : Sense) (v : Level) : Type 0 where
-  pub low : lowEnd s v ≤ areaRoom
-  pub high : highEnd s v ≤ areaRoom
+  pub low : lowEnd s v ≤ largest
+  pub high : highEnd s v ≤ largest
 
 pub ends-small : (s : Sense) (v : Level) → LevelSmall v → EndsSmall s v
 ends-small Greatest v z = record { low = z .named; high = z .limit }
 ends-small Least v z = record { low = z .limit; high = z .named }
 
-pub scaled-small : (e low : ℕ) → e ≤ 1000 → low ≤ areaRoom → (1000 + 2 * e) * low ≤ 3000 * areaRoom
+pub scaled-small : (e low : ℕ) → e ≤ 1000 → low ≤ largest → (1000 + 2 * e) * low ≤ 3000 * largest
 scaled-small e low h k = mul-le-mul {n₁ = 1000 + 2 * e} {n₂ = 3000} (omega arith) k
 
-pub area-of-window : (w : ℕ) → 1 ≤ w → w ≤ sideRoom → (1 ≤ 2 * w * w) × (2 * w * w ≤ 2 * areaRoom)
-area-of-window w h k = (omega (arith, mul-le-mul {n₁ = 1} {m₁ = 1} {n₂ = w} {m₂ = w} h h), omega (arith, mul-le-mul {n₁ = w} {m₁ = w} {n₂ = sideRoom} {m₂ = sideRoom} k k))
+pub area-of-window : (w : ℕ) → 1 ≤ w → w ≤ widest → (1 ≤ 2 * w * w) × (2 * w * w ≤ 2 * largest)
+area-of-window w h k = (omega (arith, mul-le-mul {n₁ = 1} {m₁ = 1} {n₂ = w} {m₂ = w} h h), omega (arith, mul-le-mul {n₁ = w} {m₁ = w} {n₂ = widest} {m₂ = widest} k k))

@@ -11,6 +11,7 @@ use native.Mathlib.Omega.{arith}
 use borrow.Author.Tests.{ltb-false, le-ltb}
 use lib.ListN.{length, getD, set, replicate, length-set, length-replicate, getD-replicate, List·getD-eq-default}
 use lib.Seq.{getD-set-same, getD-set-other}
+use Rattle.laws.proofs.Tests.{le-or-lt}
 use Rattle.geometry.specs.declared.Rect.{Rect}
 use Rattle.geometry.specs.declared.Spot.{Spot}
 use Rattle.geometry.specs.declared.Sense.{Sense}
@@ -18,7 +19,7 @@ use Rattle.geometry.specs.declared.Sense.the-variants.{Greatest}
 use Rattle.geometry.specs.Count.{one-if}
 use Rattle.geometry.specs.Layout.{covered, coveredArea, windowBox}
 use Rattle.geometry.specs.Extreme.{better, spotAt, replaced, bestInRows, NoBetter}
-use Rattle.geometry.proofs.Counting.{le-or-lt, box-within}
+use Rattle.geometry.proofs.Counting.{box-within}
 use Rattle.geometry.proofs.Extremes.{step-skip}
 use Rattle.extremes.specs.Exact.{windowArea}
 use Rattle.zoom.specs.Run.{levelStep, startsOn, bloated, farArea, levelOf, levelAt}

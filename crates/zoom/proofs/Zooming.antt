@@ -23,7 +23,8 @@ use Rattle.zoom.specs.declared.Next.{Next}
 use Rattle.zoom.specs.declared.Next.the-variants.{Over, Deeper}
 use Rattle.zoom.specs.declared.Grid.{Grid}
 use Rattle.zoom.specs.Run.{lastLevel, levelStep, startsOn, farArea, levelOf, levelAt, isMet, exactEnd, runFrom, quickRun}
-use Rattle.zoom.specs.Limits.{flagsRoom, sideRoom, startsRoom, LevelSmall}
+use Rattle.geometry.specs.Sizes.{widest}
+use Rattle.zoom.specs.Limits.{flagsRoom, startsRoom, LevelSmall}
 use Rattle.zoom.specs.Grid.{Sized, AtStart}
 use Rattle.zoom.specs.Passing.{Harmless, flagsInRows}
 use Rattle.zoom.specs.Weighing.{farInRows}
@@ -240,7 +241,7 @@ module _ (s : Sense) (rs : List Rect) (n w e v z : ℕ) (old new : List ℕ) (be
       after ≡ nextAfter s e v z j this m → after ≡ Over q → q ≡ quickRun s rs n w e v
   run-answers this m after q h k l o = sym (run-over s rs n w e v z (z - j) j q left-is (run-next this m after h k l ∙ o)) ∙ so-far .whole
 
-  pub run-goes-on : (this : Level) (m : Spot) (after : Next) (old′ new′ : List ℕ) (stride′ : ℕ) → n ≤ sideRoom →
+  pub run-goes-on : (this : Level) (m : Spot) (after : Next) (old′ new′ : List ℕ) (stride′ : ℕ) → n ≤ widest →
       LevelDone s rs n w t before this new new′ → m ≡ extreme s rs n w → after ≡ nextAfter s e v z j this m → after ≡ Deeper → length new′ ≡ length new →
       old′ ≡ take (length new′) new′ ++ drop (length new′) old → stride′ ≡ startsOn n w t →
       RunSoFar s rs n w e v z old′ new′ (this .named) stride′ (t / 2) (j + 1)
@@ -286,7 +287,7 @@ module _ (s : Sense) (rs : List Rect) (n w e v z : ℕ) (old new : List ℕ) (be
           (sym even) (harmless-next s rs n w (t / 2) (this .named .area) new positive))
 
   -- the numbers of a level fit the tests after it
-  pub run-small : (this : Level) → w ≤ n → n ≤ sideRoom → this ≡ levelOf s rs n w t before → LevelSmall this
+  pub run-small : (this : Level) → w ≤ n → n ≤ widest → this ≡ levelOf s rs n w t before → LevelSmall this
   run-small this q small h = subst LevelSmall (sym h) (level-small s rs n w t before small q (run-step .0) (so-far .start))
 
   pub run-deep : j ≤ 4

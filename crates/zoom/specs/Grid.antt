@@ -8,17 +8,18 @@ use Rattle.geometry.specs.Extreme.{spotAt}
 use Rattle.extremes.specs.Exact.{windowArea}
 use Rattle.zoom.specs.declared.Grid.{Grid}
 use Rattle.zoom.specs.Run.{startsOn}
-use Rattle.zoom.specs.Limits.{sideRoom, startsRoom}
+use Rattle.geometry.specs.Sizes.{widest}
+use Rattle.zoom.specs.Limits.{startsRoom}
 
 -- what counting the starts on an axis asks
 pub record Countable (n w t : ℕ) : Type 0 where
-  pub small : n ≤ sideRoom
+  pub small : n ≤ widest
   pub inside : w ≤ n
   pub some-step : 1 ≤ t
 
 -- the starts of a level, and what 64 bits ask of them and of the rows of flags above them
 pub record Sized (g : Grid) : Type 0 where
-  pub small : g .n ≤ sideRoom
+  pub small : g .n ≤ widest
   pub inside : g .w ≤ g .n
   pub some-step : 1 ≤ g .t
   pub step-fits : g .t ≤ g .w

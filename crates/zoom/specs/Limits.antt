@@ -1,41 +1,31 @@
 -- What 64 bits ask of a caller, and the numbers that they come from. A buyer need not read it: the definition of the run has no bounds, and every
 -- accepted job has what is asked here.
-use Prim.Native.Nat.{ℕ, _≤_}
+use Prim.Native.Nat.{ℕ, suc, _*_, _≤_}
 use mathlib.Core.Path.{_≡_}
 use mathlib.Core.List.{List}
 use Rattle.geometry.specs.declared.Spot.{Spot}
 use Rattle.geometry.specs.declared.Sense.{Sense}
+use Rattle.geometry.specs.Sizes.{widest, largest}
 use Rattle.geometry.specs.Layout.{rectsOf, Drawn}
 use Rattle.extremes.specs.Exact.{extreme}
 use Rattle.zoom.specs.declared.Asked.{Asked}
 use Rattle.zoom.specs.declared.Level.{Level}
 
--- the numbers of a strip, as `STRIP_ROOM` in src/, and the places of a table of flags, as `MOST_FLAGS` there
-abbrev pub stripRoom : ℕ
-stripRoom = 4096
-
+-- the places of a table of flags, as `MOST_FLAGS` in src/
 abbrev pub flagsRoom : ℕ
 flagsRoom = 262144
 
--- the side of a layout or of a window: 2^20
-abbrev pub sideRoom : ℕ
-sideRoom = 1048576
-
 -- the starts on an axis: a layout has one position more than its side at most
 abbrev pub startsRoom : ℕ
-startsRoom = 1048577
+startsRoom = suc widest
 
 -- where a window may end: 2^26, since the starts that a part of a strip serves may go past the layout by 31 steps
 abbrev pub spanRoom : ℕ
 spanRoom = 67108864
 
--- an area: sideRoom × sideRoom
-abbrev pub areaRoom : ℕ
-areaRoom = 1099511627776
-
--- the starts of a level, with a flag for each: startsRoom × startsRoom
+-- the starts of a level, with a flag for each
 abbrev pub levelRoom : ℕ
-levelRoom = 1099513724929
+levelRoom = startsRoom * startsRoom
 
 -- those and a row more: 2^42
 abbrev pub keptRoom : ℕ
@@ -46,21 +36,21 @@ pub record Runnable (s : Sense) (rects : List ℕ) (a : Asked) (m : Spot) : Type
   pub drawn : Drawn rects
   pub some-window : 1 ≤ a .window
   pub window-fits : a .window ≤ a .size
-  pub small : a .size ≤ sideRoom
+  pub small : a .size ≤ widest
   pub accurate : a .accuracy ≤ 1000
   pub extreme-is : m ≡ extreme s (rectsOf rects) (a .size) (a .window)
 
 -- a density: the window's side, floor and ceiling
 pub record Measurable (w f c : ℕ) : Type 0 where
   pub some-window : 1 ≤ w
-  pub window-small : w ≤ sideRoom
-  pub floor-small : f ≤ areaRoom
-  pub ceiling-small : c ≤ areaRoom
+  pub window-small : w ≤ widest
+  pub floor-small : f ≤ largest
+  pub ceiling-small : c ≤ largest
 
 -- a level's areas
 pub record LevelSmall (v : Level) : Type 0 where
-  pub named : v .named .area ≤ areaRoom
-  pub limit : v .limit ≤ areaRoom
+  pub named : v .named .area ≤ largest
+  pub limit : v .limit ≤ largest
 
 -- a level that is tested for an accuracy
 pub record Testable (e : ℕ) (v : Level) : Type 0 where

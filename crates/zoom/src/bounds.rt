@@ -13,12 +13,12 @@ ghost use Rattle.zoom.specs.Weighing.{betterArea, weighed, farInRow, far
 use crate::Grid;
 use crate::Level;
 use crate::Part;
-use crate::STRIP_ROOM;
 use crate::flags::flag_at;
 use crate::flags::put_flag;
 use crate::parts::part_at;
 use crate::spans::along_strip;
 use crate::spans::strip_at;
+use geometry::RECTS_ROOM;
 use geometry::Sense;
 use geometry::Spot;
 
@@ -62,7 +62,7 @@ fn row(strip: &[u64], flags: &[u8], new: &mut [u8], g: Grid, j: u64, before: Lev
     let sense = g.sense;
     let above = j / 2 * g.stride;
     let at = j * g.starts;
-    let mut near = [0u64; STRIP_ROOM];
+    let mut near = [0u64; RECTS_ROOM];
     let mut held = Part { count: 0, until: 0 };
     let mut so_far = before;
     let mut i: u64 = 0;
@@ -87,7 +87,7 @@ fn row_at(rects: &[u64], flags: &[u8], new: &mut [u8], g: Grid, j: u64, before: 
     ensures { λ r. ⌜ r ≡ farInRow (g .sense) (λ x. farArea (g .sense) (rectsOf (now (rects .entry))) (g .n) (g .w) (g .t) x (j * g .t)) (g .t) (g .starts) before ⌝ }
     ensures { λ r. ⌜ now (new .exit) ≡ flagsInRow (g .sense) (before .named .area) (λ x. farArea (g .sense) (rectsOf (now (rects .entry))) (g .n) (g .w) (g .t) x (j * g .t)) (g .t) (j * g .starts) (g .starts) (now (new .entry)) ⌝ }
 {
-    let mut strip = [0u64; STRIP_ROOM];
+    let mut strip = [0u64; RECTS_ROOM];
     let len = strip_at(rects, g, g.t, j * g.t, &mut strip);
     row(&strip[..len], flags, new, g, j, before)
 }

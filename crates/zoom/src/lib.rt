@@ -14,10 +14,6 @@ ghost use Rattle.zoom.specs.Limits.{Runnable, Measurable};
 use geometry::Sense;
 use geometry::Spot;
 
-// Room for a row's strip: it has at most as many numbers as the table of
-// rectangles that it is made from.
-const STRIP_ROOM: usize = 4096;
-
 // What is asked of a quick run: the layout's side N, the window's side W, the
 // accuracy E and the levels allowed, V.
 pub struct Asked {

@@ -11,11 +11,11 @@ ghost use Rattle.zoom.specs.Strips.{windowAlong};
 ghost use Rattle.zoom.specs.Passing.{Passable, RowPassable, StripPassable};
 use crate::Grid;
 use crate::Part;
-use crate::STRIP_ROOM;
 use crate::flags::flag_at;
 use crate::parts::part_at;
 use crate::spans::along_strip;
 use crate::spans::strip_at;
+use geometry::RECTS_ROOM;
 use geometry::Spot;
 
 // One start of a row, by what its window meets of the row's strip.
@@ -36,7 +36,7 @@ fn row(strip: &[u64], flags: &[u8], g: Grid, j: u64, before: Spot) -> Spot
 {
     let above = j / 2 * g.stride;
     let y = j * g.t;
-    let mut near = [0u64; STRIP_ROOM];
+    let mut near = [0u64; RECTS_ROOM];
     let mut held = Part { count: 0, until: 0 };
     let mut best = before;
     let mut i: u64 = 0;
@@ -57,7 +57,7 @@ fn row_at(rects: &[u64], flags: &[u8], g: Grid, j: u64, before: Spot) -> Spot
     requires { ⌜ RowPassable (now rects) (now flags) g j (before .area) ⌝ }
     ensures { λ r. ⌜ r ≡ bestInRow (g .sense) (windowArea (rectsOf (now (rects .entry))) (g .w)) (g .t) (j * g .t) (g .starts) before ⌝ }
 {
-    let mut strip = [0u64; STRIP_ROOM];
+    let mut strip = [0u64; RECTS_ROOM];
     let len = strip_at(rects, g, 0, j * g.t, &mut strip);
     row(&strip[..len], flags, g, j, before)
 }

@@ -7,10 +7,11 @@ use Rattle.extremes.proofs.add_sides.Statement.{statement}
 use Rattle.extremes.proofs.add_sides.Tie as tie
 
 abbrev Inv-loop : tie.InvT-loop
-Inv-loop rects near far w last out₀ count count₀ i₀ out count' i = SidesSoFar rects near far w last out₀ count₀ out count' i
+Inv-loop rects edges out₀ count near far count₀ i₀ out count' i =
+    SidesSoFar rects (edges .near) (edges .far) (edges .w) (edges .last) out₀ count₀ out count' i
 
 abbrev μ-loop : tie.MeasureT-loop
-μ-loop rects near far w last out₀ count count₀ i₀ out count' i = length rects - i
+μ-loop rects edges out₀ count near far count₀ i₀ out count' i = length rects - i
 
 loop-holds : tie.Need-loop-holds Inv-loop μ-loop
 loop-holds c = search sides-start

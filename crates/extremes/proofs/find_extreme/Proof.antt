@@ -32,7 +32,8 @@ slice-aggregate-search-2 : tie.Need-slice-aggregate-search-2
 slice-aggregate-search-2 c = search front-count
 
 search-requires : tie.Need-search-requires
-search-requires c κs = (search needs, (search candidates-small, search candidates-small, omega arith))
+search-requires c κs =
+    (search needs, record { columns = search candidates-small; rows = search candidates-small; side = omega arith })
 
 returns : tie.Need-returns
 returns c = search extreme-found

@@ -3,6 +3,8 @@ use Prim.Native.Nat.{_*_, _≤_}
 use mathlib.Core.Path.{_∙_}
 use native.Mathlib.Omega.{arith}
 use borrow.Author.Needs.{needs}
+use Rattle.geometry.specs.Sizes.{widest}
+use Rattle.fill.specs.Limits.{topBound}
 use Rattle.fill.proofs.Loads.{bound-fits, tiles-few, table-light, table-verdict}
 use Rattle.fill.proofs.judge.Statement.{statement}
 use Rattle.fill.proofs.judge.Tie as tie
@@ -24,10 +26,12 @@ returns c =
     let a = s .args in
     c .judge-loads .ensures ∙ table-verdict (a .rects .now) (a .amounts .now) (a .plan) _ _ (c .before .before .before .before .before .before .before .set-loads .ensures) (s .pre .fits)
 
-lower-fits : (s : tie.Start) → let p = s .args .plan in (p .lower * p .window ≤ 10485760000) × (p .lower * p .window * p .window ≤ 10995116277760000)
+lower-fits : (s : tie.Start) → let p = s .args .plan in
+    (p .lower * p .window ≤ topBound * widest) × (p .lower * p .window * p .window ≤ topBound * widest * widest)
 lower-fits s = let p = s .args .plan in bound-fits (p .lower) (p .window) (s .pre .lower) (s .pre .window)
 
-upper-fits : (s : tie.Start) → let p = s .args .plan in (p .upper * p .window ≤ 10485760000) × (p .upper * p .window * p .window ≤ 10995116277760000)
+upper-fits : (s : tie.Start) → let p = s .args .plan in
+    (p .upper * p .window ≤ topBound * widest) × (p .upper * p .window * p .window ≤ topBound * widest * widest)
 upper-fits s = let p = s .args .plan in bound-fits (p .upper) (p .window) (s .pre .upper) (s .pre .window)
 
 pub judge-spec : {M : Type 1} → statement M

@@ -24,9 +24,9 @@ add-loop c = omega arith
 
 add-total : tie.Need-add-total Inv-loop μ-loop
 add-total c =
-    let a = c .before .before .before .before .args in
+    let s = c .before .before .before .before in
     let i = c .before .before .loop .i in
-    omega (arith, c .overlap-at .ensures, overlap-small (a .rects .now) i (a .b) (c .before .before .before .before .pre))
+    omega (arith, c .overlap-at .ensures, overlap-small (s .args .rects .now) i (s .args .b) (record { small = s .pre .small }))
 
 loop-again : tie.Need-loop-again Inv-loop μ-loop
 loop-again c =

@@ -8,6 +8,7 @@ use borrow.Author.Needs.{needs}
 use borrow.Fn.Kinds.{In}
 use borrow.Fn.PlainCycle.{Measures, is, falls, and}
 use lib.ListN.{length}
+use Rattle.geometry.specs.Sizes.{largest}
 use Rattle.fill.proofs.Cutting.{full-box, empty-free, end-free, skip-free, cut-free, meeting-within, part-small, parts-fit}
 use Rattle.fill.proofs.free.free_around.Reads as around
 use Rattle.fill.proofs.free.free_around.Kinds as around-kinds
@@ -42,7 +43,7 @@ free-below t = and 1 free-kinds.ps (falls 1 free-kinds.ps _<_ μ-free t) free.Pr
 
 around-fits : (t : ℕ) (c : around-lts.After-free-from4 (free-below t, free.Post) (around-at t) around.Post) →
     c .before .before .before .free-from .result + c .before .before .free-from2 .result + c .before .free-from3 .result + c .free-from4 .result
-    ≤ 4398046511104
+    ≤ 4 * largest
 around-fits t c =
     let s = c .before .before .before .before .before in
     let a = s .args in

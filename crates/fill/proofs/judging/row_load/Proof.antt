@@ -6,6 +6,7 @@ use native.Mathlib.Nat.{zero-add}
 use native.Mathlib.Omega.{arith}
 use borrow.Author.Needs.{needs}
 use Rattle.geometry.specs.Count.{span}
+use Rattle.fill.specs.Limits.{heaviest}
 use Rattle.fill.specs.Judge.{numberAt}
 use Rattle.fill.proofs.Windows.{span-next, span-end, span-room, row-light}
 use Rattle.fill.proofs.judging.row_load.Statement.{statement}
@@ -25,7 +26,7 @@ add-total c =
     let at = c .before .before .loop in
     omega (
       arith,
-      span-room (λ v. numberAt (a .loads .now) (a .across) v (a .j)) (a .x1) (a .x2) (at .total) (at .i) (c .load-of .result) 1125899906842624 (at .inv)
+      span-room (λ v. numberAt (a .loads .now) (a .across) v (a .j)) (a .x1) (a .x2) (at .total) (at .i) (c .load-of .result) heaviest (at .inv)
           (c .before .loop-test .taken) (c .load-of .ensures) (row-light (a .loads .now) (a .across) (a .j) (a .x1) (a .x2) (s .pre .1) (s .pre .0)),
     )
 

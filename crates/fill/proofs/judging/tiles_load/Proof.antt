@@ -6,6 +6,7 @@ use native.Mathlib.Nat.{zero-add}
 use native.Mathlib.Omega.{arith}
 use borrow.Author.Needs.{needs}
 use Rattle.geometry.specs.Count.{span}
+use Rattle.fill.specs.Limits.{heaviest}
 use Rattle.fill.specs.Judge.{numberAt}
 use Rattle.fill.proofs.Windows.{span-next, span-end, span-room, box-light}
 use Rattle.fill.proofs.judging.tiles_load.Statement.{statement}
@@ -27,7 +28,7 @@ add-total c =
     omega (
       arith,
       span-room (λ y. span (a .b .x1) (a .b .x2) (λ x. numberAt (a .loads .now) (a .across) x y)) (a .b .y1) (a .b .y2) (at .total) (at .j) (c .row-load .result)
-          1125899906842624 (at .inv) (c .before .if1 .taken) (c .row-load .ensures) (box-light (a .loads .now) (a .across) (a .b) (s .pre .1) (s .pre .0)),
+          heaviest (at .inv) (c .before .if1 .taken) (c .row-load .ensures) (box-light (a .loads .now) (a .across) (a .b) (s .pre .1) (s .pre .0)),
     )
 
 loop-again : tie.Need-loop-again Inv-loop μ-loop

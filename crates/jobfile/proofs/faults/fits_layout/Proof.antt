@@ -1,6 +1,6 @@
 -- `jobfile::faults::fits_layout` meets its contract. What `both` ensures, at what its calls ensure. Assumes nothing.
 use borrow.Author.Needs.{needs}
-use Rattle.jobfile.proofs.Tests.{and-same}
+use Rattle.laws.proofs.Tests.{and-same}
 use Rattle.jobfile.proofs.faults.fits_layout.Statement.{statement}
 use Rattle.jobfile.proofs.faults.fits_layout.Tie as tie
 

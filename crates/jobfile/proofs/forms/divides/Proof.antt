@@ -3,7 +3,7 @@ use Prim.Native.Nat.{ℕ, _%_}
 use mathlib.Core.Path.{ap, _∙_}
 use borrow.Author.Needs.{needs}
 use lib.Dec.{eqb}
-use Rattle.jobfile.proofs.Tests.{and-same}
+use Rattle.laws.proofs.Tests.{and-same}
 use Rattle.jobfile.proofs.forms.divides.Statement.{statement}
 use Rattle.jobfile.proofs.forms.divides.Tie as tie
 

@@ -1,6 +1,6 @@
 -- `jobfile::forms::head_in_range` meets its contract. What `both` ensures, at what its calls ensure. Assumes nothing.
 use borrow.Author.Needs.{needs}
-use Rattle.jobfile.proofs.Tests.{and-same}
+use Rattle.laws.proofs.Tests.{and-same}
 use Rattle.jobfile.proofs.forms.head_in_range.Statement.{statement}
 use Rattle.jobfile.proofs.forms.head_in_range.Tie as tie
 

@@ -1,6 +1,6 @@
 -- `jobfile::forms::in_spans` meets its contract. What `both` ensures, at what its two calls ensure. Assumes nothing.
 use borrow.Author.Needs.{needs}
-use Rattle.jobfile.proofs.Tests.{and-same}
+use Rattle.laws.proofs.Tests.{and-same}
 use Rattle.jobfile.proofs.forms.in_spans.Statement.{statement}
 use Rattle.jobfile.proofs.forms.in_spans.Tie as tie
 

@@ -5,7 +5,7 @@ use mathlib.Core.Path.{_≡_, refl, sym, _∙_}
 use native.Mathlib.Omega.{arith}
 use borrow.Author.Needs.{needs}
 use lib.ListN.{length}
-use Rattle.zoom.specs.Limits.{stripRoom}
+use Rattle.geometry.specs.Sizes.{rectsRoom}
 use Rattle.zoom.specs.Strips.{alongStrip, Serves}
 use Rattle.zoom.proofs.Passes.{starts-small, start-inside, row-above, row-place, weighs-nothing, weighed-at}
 use Rattle.zoom.proofs.Passes.{RowSoFar, row-begins, row-no-better, row-weighable, row-length, row-advances, row-is-done}
@@ -15,7 +15,7 @@ use Rattle.zoom.proofs.bounds.row.Tie as tie
 
 abbrev Inv-loop : tie.InvT-loop
 Inv-loop strip flags new₀ g j sense above at near₀ held₀ so-far₀ i₀ new near held so-far i =
-    (i ≤ g .starts) × (length near ≡ stripRoom) × Serves strip g (g .t) i held near
+    (i ≤ g .starts) × (length near ≡ rectsRoom) × Serves strip g (g .t) i held near
     × RowSoFar (g .sense) (alongStrip (g .sense) strip (g .n) (g .w) (g .t)) (g .t) (j * g .starts) i so-far₀ so-far new₀ new
 
 abbrev μ-loop : tie.MeasureT-loop

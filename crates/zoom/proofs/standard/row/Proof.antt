@@ -8,7 +8,7 @@ use lib.ListN.{length}
 use Rattle.geometry.specs.declared.Spot.{Spot}
 use Rattle.geometry.specs.Extreme.{spotAt, bestInRow}
 use Rattle.geometry.proofs.Extremes.{step-skip}
-use Rattle.zoom.specs.Limits.{stripRoom}
+use Rattle.geometry.specs.Sizes.{rectsRoom}
 use Rattle.zoom.specs.Strips.{windowAlong, Serves}
 use Rattle.zoom.proofs.Passes.{starts-small, start-inside, row-above, looked-at, row-spares, row-next, all-done}
 use Rattle.zoom.proofs.Serving.{serves-none, serves-next, serves-count}
@@ -17,7 +17,7 @@ use Rattle.zoom.proofs.standard.row.Tie as tie
 
 abbrev Inv-loop : tie.InvT-loop
 Inv-loop strip flags g j above y near₀ held₀ best₀ i₀ near held best i =
-    (i ≤ g .starts) × (length near ≡ stripRoom) × Serves strip g 0 i held near
+    (i ≤ g .starts) × (length near ≡ rectsRoom) × Serves strip g 0 i held near
     × (best ≡ bestInRow (g .sense) (windowAlong (g .sense) strip (g .n) (g .w)) (g .t) (j * g .t) i best₀)
 
 abbrev μ-loop : tie.MeasureT-loop

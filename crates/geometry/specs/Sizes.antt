@@ -1,0 +1,26 @@
+-- What 64 bits ask of the tables that the code is lent, each size once, by name. A buyer need not read it: no contract of the unit's public
+-- functions names it, and every accepted job has it.
+use Prim.Native.Nat.{ℕ, _*_, _≤_}
+use mathlib.Core.List.{List}
+use lib.ListN.{getD}
+
+-- no coordinate and no side past 2^20, so no area past 2^40
+abbrev pub widest : ℕ
+widest = 1048576
+
+abbrev pub largest : ℕ
+largest = widest * widest
+
+-- how many rectangles may be drawn, and the numbers of so many in a table, four each, and in a strip, three each
+abbrev pub mostRects : ℕ
+mostRects = 1024
+
+abbrev pub rectsRoom : ℕ
+rectsRoom = 4 * mostRects
+
+abbrev pub stripRoom : ℕ
+stripRoom = 3 * mostRects
+
+-- no number of a list is past the widest
+pub record SmallList (l : List ℕ) : Type 0 where
+  pub small : (i : ℕ) → getD l i 0 ≤ widest

@@ -1,0 +1,1 @@
+// Laws of tests and of the order of numbers that serve several crates: no code.
