@@ -1,6 +1,6 @@
 -- A row by its strip: the strip's sums are the areas of the row's windows, so what a pass finds along the strip is what the definition finds in
 -- the row.
-use Prim.Native.Nat.{ℕ, zero, suc, _+_, _*_, _/_, _<_}
+use Prim.Native.Nat.{ℕ, zero, suc, _+_, _*_, _<_}
 use mathlib.Core.Path.{_≡_, refl, sym, ap₂, _∙_}
 use mathlib.Core.List.{List}
 use native.Mathlib.Omega.{arith}

@@ -1,6 +1,6 @@
 -- `zoom::bounds::row` meets its contract. The loop's invariant: the first i starts were weighed, and the buffer holds what the next ones meet.
 -- Assumes nothing.
-use Prim.Native.Nat.{_+_, _-_, _*_, _≤_}
+use Prim.Native.Nat.{_-_, _*_, _≤_}
 use mathlib.Core.Path.{_≡_, refl, sym, _∙_}
 use native.Mathlib.Omega.{arith}
 use borrow.Author.Needs.{needs}
