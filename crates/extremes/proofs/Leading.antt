@@ -11,7 +11,7 @@ use borrow.Author.Tests.{ltb-true, ltb-false, eqb-true, eqb-false}
 use Rattle.laws.proofs.Tests.{true-false}
 use Rattle.geometry.specs.declared.Spot.{Spot}
 use Rattle.geometry.specs.declared.Sense.{Sense}
-use Rattle.geometry.specs.Extreme.{better, spotAt}
+use Rattle.geometry.specs.Extreme.{better, NoBetter, spotAt}
 use Rattle.geometry.proofs.Extremes.{NoLater, no-later-trans, better-neither, better-self, better-trans, IsBest}
 use Rattle.extremes.specs.Search.{earlier, leads, leading, passed, leadingInRow, leadingInRows}
 
@@ -130,7 +130,7 @@ module _ (s : Sense) (f : ℕ → ℕ → ℕ) (xs ys : List ℕ) where
       found : Spot
       found = leadingInRows s f xs ys (spotAt f x₀ y₀)
 
-      none : (x y : ℕ) → Ahead s found (spotAt f x y) → better s (f x y) (found .area) ≡ false
+      none : (x y : ℕ) → Ahead s found (spotAt f x y) → NoBetter s (f x y) (found .area)
       none x y (inl h) = go (better s (f x y) (found .area)) refl
         where
           go : (t : Bool) → better s (f x y) (found .area) ≡ t → t ≡ false

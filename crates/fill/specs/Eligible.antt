@@ -11,23 +11,23 @@ use Rattle.geometry.specs.Layout.{covered}
 abbrev pub gapBetween : (a b c d : ℕ) → ℕ
 gapBetween a b c d = max (c - b) (a - d)
 
--- the unit square (x, y) is far enough from a rectangle: its gap across or its gap down is at least g
+-- the unit square (x, y) is far enough from a rectangle: its gap across or its gap down is at least the stated one
 abbrev pub clearOf : ℕ → Rect → ℕ → ℕ → Bool
-clearOf g r x y = leb g (gapBetween x (suc x) (r .x1) (r .x2)) || leb g (gapBetween y (suc y) (r .y1) (r .y2))
+clearOf gap r x y = leb gap (gapBetween x (suc x) (r .x1) (r .x2)) || leb gap (gapBetween y (suc y) (r .y1) (r .y2))
 
 -- far enough from every rectangle
 unfoldable pub clearOfAll : ℕ → List Rect → ℕ → ℕ → Bool
-clearOfAll g [] x y = true
-clearOfAll g (r ∷ rs) x y = clearOf g r x y && clearOfAll g rs x y
+clearOfAll gap [] x y = true
+clearOfAll gap (r ∷ rs) x y = clearOf gap r x y && clearOfAll gap rs x y
 
 -- a unit square is eligible if it is uncovered and far enough from every rectangle
 abbrev pub eligible : ℕ → List Rect → ℕ → ℕ → Bool
-eligible g rs x y = not (covered rs x y) && clearOfAll g rs x y
+eligible gap rs x y = not (covered rs x y) && clearOfAll gap rs x y
 
--- tile (i, j) of side d
+-- tile (i, j) of the given side
 abbrev pub tile : ℕ → ℕ → ℕ → Rect
-tile d i j = record { x1 = i * d; y1 = j * d; x2 = suc i * d; y2 = suc j * d }
+tile side i j = record { x1 = i * side; y1 = j * side; x2 = suc i * side; y2 = suc j * side }
 
 -- the fillable area of a box, such as a tile: the number of its eligible unit squares
 abbrev pub fillableArea : ℕ → List Rect → Rect → ℕ
-fillableArea g rs b = boxSum b (λ x y. one-if (eligible g rs x y))
+fillableArea gap rs b = boxSum b (λ x y. one-if (eligible gap rs x y))

@@ -9,21 +9,21 @@ use Rattle.geometry.specs.declared.Rect.{Rect}
 use Rattle.geometry.specs.Count.{one-if, boxSum}
 use Rattle.geometry.specs.Layout.{covered, rectsOf}
 
--- a rectangle grown by the gap g on all sides, cut off at 0
+-- a rectangle grown by the gap on all sides, cut off at 0
 abbrev pub grown : ℕ → Rect → Rect
-grown g r = record { x1 = r .x1 - g; y1 = r .y1 - g; x2 = r .x2 + g; y2 = r .y2 + g }
+grown gap r = record { x1 = r .x1 - gap; y1 = r .y1 - gap; x2 = r .x2 + gap; y2 = r .y2 + gap }
 
 unfoldable pub grownAll : ℕ → List Rect → List Rect
-grownAll g [] = []
-grownAll g (r ∷ rs) = grown g r ∷ grownAll g rs
+grownAll gap [] = []
+grownAll gap (r ∷ rs) = grown gap r ∷ grownAll gap rs
 
 -- the squares of a box that no rectangle covers
 abbrev pub freeArea : List Rect → Rect → ℕ
 freeArea rs b = boxSum b (λ x y. one-if (not (covered rs x y)))
 
--- the squares of a box that none of the rectangles from place i of a table holds, each grown by g
-abbrev pub freeFrom : (g : ℕ) (table : List ℕ) (i : ℕ) → Rect → ℕ
-freeFrom g table i b = freeArea (grownAll g (rectsOf (drop i table))) b
+-- the squares of a box that none of the rectangles from place i of a table holds, each grown by the gap
+abbrev pub freeFrom : (gap : ℕ) (table : List ℕ) (i : ℕ) → Rect → ℕ
+freeFrom gap table i b = freeArea (grownAll gap (rectsOf (drop i table))) b
 
 abbrev pub isEmpty : Rect → Bool
 isEmpty b = leb (b .x2) (b .x1) || leb (b .y2) (b .y1)
@@ -46,9 +46,9 @@ abbrev pub above : (b m : Rect) → Rect
 above b m = record { x1 = b .x1; y1 = m .y2; x2 = b .x2; y2 = b .y2 }
 
 -- the free squares around m, by the rectangles from place i on
-abbrev pub aroundFrom : (g : ℕ) (table : List ℕ) (i : ℕ) → (b m : Rect) → ℕ
-aroundFrom g table i b m =
-    freeFrom g table i (below b m) + freeFrom g table i (leftOf b m) + freeFrom g table i (rightOf b m) + freeFrom g table i (above b m)
+abbrev pub aroundFrom : (gap : ℕ) (table : List ℕ) (i : ℕ) → (b m : Rect) → ℕ
+aroundFrom gap table i b m =
+    freeFrom gap table i (below b m) + freeFrom gap table i (leftOf b m) + freeFrom gap table i (rightOf b m) + freeFrom gap table i (above b m)
 
 -- the box m lies in the box b
 pub record Within (m b : Rect) : Type 0 where

@@ -12,7 +12,7 @@ use Rattle.laws.proofs.Tests.{le-or-lt, true-false}
 use Rattle.geometry.specs.declared.Spot.{Spot}
 use Rattle.geometry.specs.declared.Sense.{Sense}
 use Rattle.geometry.specs.declared.Sense.the-variants.{Greatest, Least}
-use Rattle.geometry.specs.Extreme.{better, spotAt, replaced, bestInRow, bestInRows}
+use Rattle.geometry.specs.Extreme.{better, NoBetter, spotAt, replaced, bestInRow, bestInRows}
 
 -- ---- one step
 
@@ -81,7 +81,7 @@ no-later-both x y x′ y′ (inr h) (inr k) = record { x-same = omega (arith, h 
 pub record IsBest (s : Sense) (f : ℕ → ℕ → ℕ) (seen : ℕ → ℕ → Type 0) (r : Spot) : Type 0 where
   pub was-seen : seen (r .x) (r .y)
   pub area-is : r .area ≡ f (r .x) (r .y)
-  pub none-better : (x y : ℕ) → seen x y → better s (f x y) (r .area) ≡ false
+  pub none-better : (x y : ℕ) → seen x y → NoBetter s (f x y) (r .area)
   pub first : (x y : ℕ) → seen x y → f x y ≡ r .area → NoLater (r .x) (r .y) x y
 
 -- the same where b stood before: b still stands if no position is strictly better
