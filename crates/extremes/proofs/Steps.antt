@@ -15,7 +15,7 @@ use Rattle.geometry.specs.declared.Rect.{Rect}
 use Rattle.geometry.specs.Sizes.{widest, SmallList}
 use Rattle.geometry.specs.Layout.{rectsOf, coveredArea, Drawn}
 use Rattle.buffers.specs.Written.{Front}
-use Rattle.geometry.specs.Overlaps.{stripOf, stripSum, StripSmall}
+use Rattle.geometry.specs.Strips.{stripOf, stripSum, StripSmall}
 use Rattle.geometry.specs.Extreme.{better, spotAt}
 use Rattle.geometry.proofs.Overlaps.{strip-is-area}
 use Rattle.geometry.proofs.Strips.{strip-small}

@@ -14,7 +14,7 @@ ghost use mathlib.Core.List.{[], _∷_};
 ghost use lib.ListN.{length, take};
 ghost use Rattle.geometry.specs.Layout.{rectsOf, Drawn};
 ghost use Rattle.buffers.specs.Written.{Front};
-ghost use Rattle.geometry.specs.Overlaps.{stripSum, StripSmall};
+ghost use Rattle.geometry.specs.Strips.{stripSum, StripSmall};
 ghost use Rattle.geometry.specs.Extreme.{spotAt};
 ghost use Rattle.extremes.specs.Exact.{windowArea, extreme, exactRun};
 ghost use Rattle.extremes.specs.Search.{nearSide, farSide, listed, withPosition, withEnd, withSides, candidates};

@@ -52,18 +52,18 @@ found-more f k (suc m) b x y e h l = go (below-or-last k m l) (found-more f k m 
     go (inr p) ih = ap (λ (i : ℕ). orElse (firstOf f i) (f i)) (sym p) ∙ ap (λ (o : Failing). orElse o (f k)) e ∙ h
 
 -- a failing number with none before it
-pub record Earliest (f : ℕ → Failing) (k : ℕ) (b : Bound) (x y : ℕ) : Type 0 where
+pub record FirstAt (f : ℕ → Failing) (k : ℕ) (b : Bound) (x y : ℕ) : Type 0 where
   pub at : ℕ
   pub within : at < k
   pub here : f at ≡ At b x y
   pub before : (i : ℕ) → i < at → f i ≡ Nowhere
 
-pub first-found : (f : ℕ → Failing) (k : ℕ) (b : Bound) (x y : ℕ) → firstOf f k ≡ At b x y → Earliest f k b x y
+pub first-found : (f : ℕ → Failing) (k : ℕ) (b : Bound) (x y : ℕ) → firstOf f k ≡ At b x y → FirstAt f k b x y
 unfolding firstOf
 first-found f zero b x y e = never b x y (sym e)
 first-found f (suc k) b x y e = go (firstOf f k) refl (first-found f k b x y) e
   where
-    go : (o : Failing) → firstOf f k ≡ o → (firstOf f k ≡ At b x y → Earliest f k b x y) → orElse o (f k) ≡ At b x y → Earliest f (suc k) b x y
+    go : (o : Failing) → firstOf f k ≡ o → (firstOf f k ≡ At b x y → FirstAt f k b x y) → orElse o (f k) ≡ At b x y → FirstAt f (suc k) b x y
     go Nowhere p ih q = record { at = k; within = omega arith; here = q; before = first-none f k p }
     go (At c v w) p ih q =
         let found = ih (p ∙ q) in

@@ -15,7 +15,7 @@ use Rattle.fill.specs.declared.Bound.the-variants.{Over, Under}
 use Rattle.fill.specs.declared.Failing.{Failing}
 use Rattle.fill.specs.declared.Failing.the-variants.{Nowhere, At}
 use Rattle.fill.specs.Limits.{heaviest}
-use Rattle.fill.specs.Windows.{tilesForUpper, tilesForLower, failingWithin, failingBy, isFound, allTiles, Loads, IsTile, InRow, InLayout, IsStart}
+use Rattle.fill.specs.Windows.{tilesForUpper, tilesForLower, failingWithin, failingBy, isFound, allTiles, Loads, IsTile, InRow, TilesInLayout, IsStart}
 use Rattle.fill.specs.Judge.{TileBox, numberAt}
 use Rattle.fill.proofs.Starts.{firstOf, none-more, found-more}
 
@@ -36,7 +36,7 @@ span-room f a b total i v m e h k l = omega (arith, span-next f a b total i v e 
 pub place-within : (across i j m : ℕ) → IsTile across i j → across * across ≤ m → j * across + i < m
 place-within across i j m t l = omega (arith, digits-lt {q = j} {m = across} {r = i} {c = across} (t .row) (t .column))
 
-pub box-light : (table : List ℕ) (across : ℕ) (b : TileBox) → Loads table across → InLayout across b → boxSum b (numberAt table across) ≤ heaviest
+pub box-light : (table : List ℕ) (across : ℕ) (b : TileBox) → Loads table across → TilesInLayout across b → boxSum b (numberAt table across) ≤ heaviest
 box-light table across b s h =
     le-trans (box-within b (allTiles across) (numberAt table across) (omega arith) (omega arith) (h .right) (h .high)) (s .light)
 
@@ -97,10 +97,10 @@ module _ (rule : Rule) (i j forUpper forLower : ℕ) where
 -- ---- the tiles of a start
 
 module _ (rule : Rule) (margin i j : ℕ) where
-  pub upper-inside : (b : TileBox) → b ≡ tilesForUpper rule margin i j → InLayout (rule .across) b
+  pub upper-inside : (b : TileBox) → b ≡ tilesForUpper rule margin i j → TilesInLayout (rule .across) b
   upper-inside b e = record { right = omega (arith, ap (λ (q : TileBox). q .x2) e); high = omega (arith, ap (λ (q : TileBox). q .y2) e) }
 
-  pub lower-inside : (b : TileBox) → b ≡ tilesForLower rule margin i j → IsStart rule margin i j → InLayout (rule .across) b
+  pub lower-inside : (b : TileBox) → b ≡ tilesForLower rule margin i j → IsStart rule margin i j → TilesInLayout (rule .across) b
   lower-inside b e s = record { right = omega (arith, ap (λ (q : TileBox). q .x2) e); high = omega (arith, ap (λ (q : TileBox). q .y2) e) }
 
   pub start-judged : (load : ℕ → ℕ → ℕ) (forUpper forLower : ℕ) (a b : TileBox) (v : Failing) → a ≡ tilesForUpper rule margin i j →
@@ -109,6 +109,6 @@ module _ (rule : Rule) (margin i j : ℕ) where
   start-judged load forUpper forLower a b v ea eb eo eu ev =
       ev ∙ ap₂ (failingWithin rule i j) (eo ∙ ap (λ (q : TileBox). boxSum q load) ea) (eu ∙ ap (λ (q : TileBox). boxSum q load) eb)
 
-pub load-light : (table : List ℕ) (across : ℕ) (b : TileBox) (v : ℕ) → Loads table across → v ≡ boxSum b (numberAt table across) → InLayout across b →
+pub load-light : (table : List ℕ) (across : ℕ) (b : TileBox) (v : ℕ) → Loads table across → v ≡ boxSum b (numberAt table across) → TilesInLayout across b →
     v ≤ heaviest
 load-light table across b v s e h = omega (arith, box-light table across b s h)

@@ -76,7 +76,7 @@ pub record InRow (across j x2 : ℕ) : Type 0 where
   pub columns : x2 ≤ across
   pub row : j < across
 
-pub record InLayout (across : ℕ) (b : TileBox) : Type 0 where
+pub record TilesInLayout (across : ℕ) (b : TileBox) : Type 0 where
   pub right : b .x2 ≤ across
   pub high : b .y2 ≤ across
 

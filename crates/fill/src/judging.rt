@@ -10,7 +10,7 @@ ghost use Rattle.geometry.specs.Count.{span, boxSum};
 ghost use Rattle.fill.specs.declared.Failing.the-variants.{Nowhere};
 ghost use Rattle.fill.specs.Limits.{heaviest};
 ghost use Rattle.fill.specs.Judge.{numberAt, failingInRow, judged};
-ghost use Rattle.fill.specs.Windows.{tilesForUpper, tilesForLower, failingWithin, failingBy, searchBy, isFound, Loads, IsTile, InRow, InLayout, IsStart};
+ghost use Rattle.fill.specs.Windows.{tilesForUpper, tilesForLower, failingWithin, failingBy, searchBy, isFound, Loads, IsTile, InRow, TilesInLayout, IsStart};
 
 // What a table of loads is judged by: the tiles across the layout and across a
 // window, and 10,000 times the least and the greatest load of a window.
@@ -48,7 +48,7 @@ fn row_load(loads: &[u64], across: u64, j: u64, x1: u64, x2: u64) -> u64
 
 // The load of a box of tiles, which counts in tiles.
 fn tiles_load(loads: &[u64], across: u64, b: Rect) -> u64
-    requires { ⌜ InLayout across b ⌝ }
+    requires { ⌜ TilesInLayout across b ⌝ }
     requires { ⌜ Loads (now loads) across ⌝ }
     ensures { λ r. ⌜ r ≡ boxSum b (numberAt (now (loads .entry)) across) ⌝ }
 {

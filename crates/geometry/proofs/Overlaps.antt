@@ -12,7 +12,8 @@ use Rattle.laws.proofs.Tests.{le-or-lt}
 use Rattle.geometry.specs.declared.Rect.{Rect}
 use Rattle.geometry.specs.Count.{sum, span, boxSum, one-if}
 use Rattle.geometry.specs.Layout.{holds, covered, coveredArea, Disjoint}
-use Rattle.geometry.specs.Overlaps.{common, overlap, overlapSum, part, stripOf, stripSum}
+use Rattle.geometry.specs.Overlaps.{common, overlap, overlapSum}
+use Rattle.geometry.specs.Strips.{part, stripOf, stripSum}
 use Rattle.geometry.proofs.Counting.{box-cong, box-le, box-plus, box-const, box-product}
 
 -- ---- tests as counts

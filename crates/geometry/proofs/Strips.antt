@@ -8,7 +8,8 @@ use lib.ListN.{length, getD, take, drop, set, length-append, length-drop}
 use Rattle.geometry.specs.declared.Rect.{Rect}
 use Rattle.geometry.specs.Sizes.{widest}
 use Rattle.geometry.specs.Layout.{coveredArea, rectsOf, Drawn}
-use Rattle.geometry.specs.Overlaps.{rectAt, common, part, rowsPart, stripOf, columnsPart, narrowed, stripSum, StripSmall}
+use Rattle.geometry.specs.Overlaps.{rectAt, common}
+use Rattle.geometry.specs.Strips.{part, rowsPart, stripOf, columnsPart, narrowed, stripSum, StripSmall}
 use Rattle.buffers.specs.Written.{Written, Front}
 use Rattle.geometry.proofs.Overlaps.{part-full, part-none, part-either, part-sum, strip-is-area}
 use Rattle.geometry.proofs.Tables.{three-at, rects-next, rects-end, rects-few}

@@ -8,7 +8,8 @@ use lib.ListN.{length, getD, drop, length-drop}
 use Rattle.geometry.specs.declared.Rect.{Rect}
 use Rattle.geometry.specs.Sizes.{widest, largest, SmallList}
 use Rattle.geometry.specs.Layout.{coveredArea, rectsOf, Drawn}
-use Rattle.geometry.specs.Overlaps.{rectAt, common, overlap, overlapSum, stripSum, StripSmall}
+use Rattle.geometry.specs.Overlaps.{rectAt, common, overlap, overlapSum}
+use Rattle.geometry.specs.Strips.{stripSum, StripSmall}
 use Rattle.geometry.proofs.Overlaps.{overlap-is-area}
 use Rattle.geometry.proofs.Tables.{three-at, rects-next, rects-end}
 

@@ -5,7 +5,8 @@ ghost use mathlib.Core.Path.{_≡_};
 ghost use lib.ListN.{length, getD};
 ghost use Rattle.geometry.specs.Sizes.{SmallList};
 ghost use Rattle.geometry.specs.Layout.{rectsOf, coveredArea, sharesSquare, Drawn};
-ghost use Rattle.geometry.specs.Overlaps.{rectAt, common, overlap, part, rowsPart, columnsPart, stripOf, narrowed, stripSum, StripSmall};
+ghost use Rattle.geometry.specs.Overlaps.{rectAt, common, overlap};
+ghost use Rattle.geometry.specs.Strips.{part, rowsPart, columnsPart, stripOf, narrowed, stripSum, StripSmall};
 ghost use Rattle.buffers.specs.Written.{Written, Front};
 ghost use Rattle.geometry.specs.Extreme.{better, replaced};
 

@@ -1,16 +1,14 @@
 -- What a layer above may rely on where a file was accepted.
 use Prim.Native.Nat.{ℕ, _+_, _-_, _*_, _/_, _%_, _≤_, _<_}
 use mathlib.Core.Path.{_≡_, refl, subst}
-use mathlib.Core.Bool.{true, _&&_}
-use mathlib.Core.List.{List, [], _∷_}
+use mathlib.Core.List.{List}
 use mathlib.Core.Logic.{_⊎_, inl, inr}
 use native.Mathlib.Nat.{le-trans, div-add-mod', mod-lt, div-lt-iff-lt-mul}
 use native.Mathlib.Omega.{arith}
-use lib.Dec.{leb, ltb, lit≤}
+use lib.Dec.{lit≤}
 use lib.ListN.{length, getD, take, replicate, List·getD-eq-default}
 use lib.Seq.{take-at}
-use borrow.Author.Tests.{ltb-true, leb-true}
-use Rattle.laws.proofs.Tests.{le-or-lt, both}
+use Rattle.laws.proofs.Tests.{le-or-lt}
 use Rattle.geometry.specs.declared.Rect.{Rect}
 use Rattle.geometry.specs.Layout.{Disjoint, Drawn}
 use Rattle.fill.specs.Eligible.{tile, fillableArea}
@@ -21,58 +19,22 @@ use Rattle.jobfile.specs.declared.Form.{Form}
 use Rattle.jobfile.specs.declared.Turn.the-variants.{Before}
 use Rattle.jobfile.specs.Limits.{unitLimits}
 use Rattle.jobfile.specs.Forms.{tileSide, tilesAcross}
-use Rattle.jobfile.specs.Faults.{Standing, fitsLayout}
+use Rattle.jobfile.specs.Faults.{Standing}
 use Rattle.jobfile.specs.File.{accepted, outcomeOf}
-use Rattle.jobfile.specs.Acceptance.{Good, none, next, AcceptedFile}
+use Rattle.jobfile.specs.Acceptance.{Good, none, next}
 use Rattle.jobfile.specs.Held.{shapesRoom, tileCount, GoodShapes, Sound, tableOf, padded}
 use Rattle.jobfile.proofs.Heads.{HeadFacts, head-facts, positive}
 use Rattle.jobfile.proofs.Tables.{length-table, rects-of-table, table-small}
 use Rattle.jobfile.proofs.Sound.{sound-after, sound-start}
 use Rattle.jobfile.proofs.Files.{acceptance}
 
--- a rectangle has its corners in order, in the layout
-pub record InLayout (h : Head) (r : Rect) : Type 0 where
-  pub across : r .x1 < r .x2
-  pub down : r .y1 < r .y2
-  pub right : r .x2 ≤ h .size
-  pub high : r .y2 ≤ h .size
-
-unfoldable pub AllInLayout : Head → List Rect → Type 0
-AllInLayout h [] = Unit {0}
-AllInLayout h (r ∷ rs) = InLayout h r × AllInLayout h rs
-
 pub record AcceptedFacts (st : Standing) : Type 0 where
   pub head : HeadFacts (st .head)
   pub few : length (st .shapes) ≤ unitLimits .shapes
-  pub inside : AllInLayout (st .head) (st .shapes)
-  pub apart : Disjoint (st .shapes)
   pub drawn : Drawn (tableOf (st .shapes))
   pub sized : length (st .amounts) ≡ tileCount (st .head)
   pub fillable : (i j : ℕ) → i < tilesAcross (st .head) → j < tilesAcross (st .head) →
       numberAt (st .amounts) (tilesAcross (st .head)) i j ≤ fillableArea (st .head .gap) (st .shapes) (tile (tileSide (st .head)) i j)
-
-in-layout : (h : Head) (r : Rect) → fitsLayout h r ≡ true → InLayout h r
-in-layout h r e =
-    record {
-      across = ltb-true (r .x1) (r .x2) (a .0);
-      down = ltb-true (r .y1) (r .y2) (a .1);
-      right = leb-true (r .x2) (h .size) (b .0);
-      high = leb-true (r .y2) (h .size) (b .1);
-    }
-  where
-    k : ((ltb (r .x1) (r .x2) && ltb (r .y1) (r .y2)) ≡ true) × ((leb (r .x2) (h .size) && leb (r .y2) (h .size)) ≡ true)
-    k = both (ltb (r .x1) (r .x2) && ltb (r .y1) (r .y2)) (leb (r .x2) (h .size) && leb (r .y2) (h .size)) e
-
-    a : (ltb (r .x1) (r .x2) ≡ true) × (ltb (r .y1) (r .y2) ≡ true)
-    a = both (ltb (r .x1) (r .x2)) (ltb (r .y1) (r .y2)) (k .0)
-
-    b : (leb (r .x2) (h .size) ≡ true) × (leb (r .y2) (h .size) ≡ true)
-    b = both (leb (r .x2) (h .size)) (leb (r .y2) (h .size)) (k .1)
-
-all-in-layout : (h : Head) (rs : List Rect) → GoodShapes h rs → AllInLayout h rs
-unfolding GoodShapes AllInLayout
-all-in-layout h [] g = tt
-all-in-layout h (r ∷ rs) g = (in-layout h r (g .1), all-in-layout h rs (g .2))
 
 -- the table of good rectangles is drawn
 table-drawn : (h : Head) (rs : List Rect) → GoodShapes h rs → Disjoint rs → length rs ≤ unitLimits .shapes → Drawn (tableOf rs)
@@ -96,8 +58,6 @@ accepted-facts file st e =
     record {
       head = head-facts (st .head) (s .headed headed);
       few = s .few;
-      inside = all-in-layout (st .head) (st .shapes) (s .good);
-      apart = s .apart;
       drawn = table-drawn (st .head) (st .shapes) (s .good) (s .apart) (s .few);
       sized = s .sized;
       fillable = s .fillable;

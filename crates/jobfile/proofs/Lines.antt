@@ -143,16 +143,16 @@ module _ (rest : List ℕ) (s : State) (rects amounts : List ℕ) (n : ℕ) (e :
 
 -- ---- what was read, and what is left from a place
 
-pub record SoFar (file : List ℕ) (s : State) (rects amounts : List ℕ) (line at : ℕ) : Type 0 where
+pub record ReadSoFar (file : List ℕ) (s : State) (rects amounts : List ℕ) (line at : ℕ) : Type 0 where
   pub held : Held s rects amounts
   pub within : at ≤ length file
   pub lines : line ≤ at + 1
   pub whole : readLines unitLimits beforeHead 1 (parts file) ≡ readLines unitLimits (standing s rects amounts) line (parts (drop at file))
 
-pub so-far-start : (file rects amounts : List ℕ) (h : Head) → rects ≡ zeros shapesRoom → amounts ≡ zeros amountsRoom → h ≡ noHead →
-    SoFar file (record { turn = Before; head = h; count = 0 }) rects amounts 1 0
+pub read-so-far-start : (file rects amounts : List ℕ) (h : Head) → rects ≡ zeros shapesRoom → amounts ≡ zeros amountsRoom → h ≡ noHead →
+    ReadSoFar file (record { turn = Before; head = h; count = 0 }) rects amounts 1 0
 unfolding rectsOf
-so-far-start file rects amounts h er ea eh =
+read-so-far-start file rects amounts h er ea eh =
     rw (er, ea, eh)
     (record {
       held = record {
@@ -170,10 +170,10 @@ so-far-start file rects amounts h er ea eh =
     })
 
 -- one good line more
-pub so-far-next : (file : List ℕ) (s : State) (rects amounts : List ℕ) (line at : ℕ) (rest : List ℕ) (r : Step) (rects′ amounts′ : List ℕ) →
-    SoFar file s rects amounts line at → rest ≡ drop at file → LineRead rest s rects amounts r rects′ amounts′ → r .fault ≡ 0 →
-    SoFar file (r .state) rects′ amounts′ (line + 1) (at + r .used)
-so-far-next file s rects amounts line at rest r rects′ amounts′ k e read z =
+pub read-so-far-next : (file : List ℕ) (s : State) (rects amounts : List ℕ) (line at : ℕ) (rest : List ℕ) (r : Step) (rects′ amounts′ : List ℕ) →
+    ReadSoFar file s rects amounts line at → rest ≡ drop at file → LineRead rest s rects amounts r rects′ amounts′ → r .fault ≡ 0 →
+    ReadSoFar file (r .state) rects′ amounts′ (line + 1) (at + r .used)
+read-so-far-next file s rects amounts line at rest r rects′ amounts′ k e read z =
     record {
       held = read .good z .held;
       within = omega (arith, feed, read .used, ap length e, length-drop at file, k .within);
@@ -199,11 +199,11 @@ so-far-next file s rects amounts line at rest r rects′ amounts′ k e read z =
         ∙ ap (λ (n : ℕ). drop (at + n) file) (sym (read .used ∙ add-one (lineLength rest)))
 
 -- a faulty line ends the reading
-pub so-far-bad : (file : List ℕ) (s : State) (rects amounts : List ℕ) (line at : ℕ) (rest : List ℕ) (r : Step) (rects′ amounts′ : List ℕ) →
-    SoFar file s rects amounts line at → at < length file → rest ≡ drop at file → LineRead rest s rects amounts r rects′ amounts′ →
+pub read-so-far-bad : (file : List ℕ) (s : State) (rects amounts : List ℕ) (line at : ℕ) (rest : List ℕ) (r : Step) (rects′ amounts′ : List ℕ) →
+    ReadSoFar file s rects amounts line at → at < length file → rest ≡ drop at file → LineRead rest s rects amounts r rects′ amounts′ →
     (r .fault ≡ 0 → ⊥) → jobOf (record { fault = r .fault; line = line; state = s }) rects′ amounts′ ≡ asJob (readLines unitLimits beforeHead 1 (parts file))
 unfolding jobOf
-so-far-bad file s rects amounts line at rest r rects′ amounts′ k h e read n =
+read-so-far-bad file s rects amounts line at rest r rects′ amounts′ k h e read n =
     rw (ne-eqb (r .fault) 0 n, jobOf)
     (ap asJob
     (sym
@@ -242,10 +242,10 @@ ended s line rects amounts k Done =
     job n r a = record { fault = 0; line = 0; head = s .head; count = n; rects = r; amounts = a }
 
 -- the end of the file
-pub so-far-end : (file : List ℕ) (s : State) (rects amounts : List ℕ) (line at n : ℕ) → SoFar file s rects amounts line at → length file ≤ at →
+pub read-so-far-end : (file : List ℕ) (s : State) (rects amounts : List ℕ) (line at n : ℕ) → ReadSoFar file s rects amounts line at → length file ≤ at →
     n ≡ endFault (s .turn) → jobOf (record { fault = n; line = line; state = s }) rects amounts ≡ asJob (readLines unitLimits beforeHead 1 (parts file))
 unfolding parts readLines
-so-far-end file s rects amounts line at n k h e =
+read-so-far-end file s rects amounts line at n k h e =
     ap (λ (m : ℕ). jobOf (record { fault = m; line = line; state = s }) rects amounts) e
     ∙ ended s line rects amounts (k .held) (s .turn)
     ∙ ap asJob (sym (k .whole ∙ ap (λ (t : List ℕ). readLines unitLimits (standing s rects amounts) line (parts t)) (drop-of-length-le file h)))

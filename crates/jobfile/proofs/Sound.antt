@@ -1,18 +1,16 @@
 -- What is so after good lines stays so after one more.
 use Prim.Native.Nat.{ℕ, _+_, _*_, _/_, _%_, _≤_, _<_}
 use mathlib.Core.Path.{_≡_, refl, sym, ap, _∙_}
-use mathlib.Core.Bool.{true, false, not, _&&_, false≢true}
+use mathlib.Core.Bool.{true, false, false≢true}
 use mathlib.Core.List.{List, [], _∷_, _++_}
 use native.Mathlib.Decide.{ℕ-discrete}
 use native.Mathlib.Omega.{arith}
-use lib.Dec.{leb, ltb, eqb, lit<, lit≤}
+use lib.Dec.{lit<, lit≤}
 use lib.Arith.{digits-lt, digits-div, digits-mod}
 use lib.ListN.{length, getD, set, replicate, length-append, length-set, length-replicate}
 use lib.Seq.{getD-set-same, getD-set-other}
-use borrow.Author.Tests.{ltb-true, leb-true, eqb-true, not-true}
-use Rattle.laws.proofs.Tests.{both}
 use Rattle.geometry.specs.declared.Rect.{Rect}
-use Rattle.geometry.specs.Layout.{sharesSquare, Disjoint}
+use Rattle.geometry.specs.Layout.{Disjoint}
 use Rattle.geometry.proofs.Sharing.{shares-none}
 use Rattle.geometry.proofs.Tables.{disjoint-more}
 use Rattle.fill.specs.Eligible.{tile, fillableArea}
@@ -23,8 +21,8 @@ use Rattle.jobfile.specs.declared.Form.the-variants.{Unknown, Heading, S
 use Rattle.jobfile.specs.declared.Turn.{Turn}
 use Rattle.jobfile.specs.declared.Turn.the-variants.{Before, Shapes, Fills, Done}
 use Rattle.jobfile.specs.Limits.{unitLimits}
-use Rattle.jobfile.specs.Forms.{inRange, rectInRange, tileSide, tilesAcross, agrees}
-use Rattle.jobfile.specs.Faults.{Standing, beforeHead, inTurn, known, check, fitsLayout, shapeFault, fillFault, ownFault, lineFault, standsAfter}
+use Rattle.jobfile.specs.Forms.{rectInRange, tileSide, tilesAcross, agrees}
+use Rattle.jobfile.specs.Faults.{Standing, beforeHead, inTurn, fitsLayout, lineFault, standsAfter}
 use Rattle.jobfile.specs.Held.{tileCount, GoodShapes, Sound}
 use Rattle.jobfile.proofs.Faultless.{check-passes, NoFault, no-fault, NoShapeFault, no-shape-fault, NoFillFault, no-fill-fault}
 use Rattle.jobfile.proofs.Tables.{getD-zeros}

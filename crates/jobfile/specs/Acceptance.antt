@@ -14,7 +14,7 @@ use Rattle.jobfile.specs.declared.Turn.the-variants.{Done}
 use Rattle.jobfile.specs.Limits.{Limits, Widened}
 use Rattle.jobfile.specs.Forms.{headPattern, rectPattern, fillPattern, endPattern}
 use Rattle.jobfile.specs.Faults.{Standing, beforeHead, known, lineFault, standsAfter}
-use Rattle.jobfile.specs.File.{Outcome, refused, accepted, outcomeOf}
+use Rattle.jobfile.specs.File.{refused, accepted, outcomeOf}
 
 -- ---- the spelling of a form
 

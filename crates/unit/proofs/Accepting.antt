@@ -6,6 +6,7 @@ use native.Mathlib.Nat.{zero-add}
 use native.Mathlib.Omega.{arith}
 use lib.Dec.{lit≤}
 use lib.ListN.{length, take, drop, replicate, length-append, length-replicate}
+use Rattle.fill.proofs.Loads.{tiles-few}
 use Rattle.jobfile.specs.declared.Job.{Job}
 use Rattle.jobfile.specs.Limits.{unitLimits}
 use Rattle.jobfile.specs.Forms.{tilesAcross}
@@ -21,7 +22,6 @@ use Rattle.unit.specs.Guarantee.{FilePromise}
 use Rattle.unit.specs.Ready.{Ready, jobStanding, Readable}
 use Rattle.unit.specs.Rendering.{answerRoom, WrittenIn, Rendering}
 use Rattle.unit.proofs.Demand.{Runs, promises-kept}
-use Rattle.unit.proofs.Running.{tiles-few}
 
 -- ---- an accepted file
 

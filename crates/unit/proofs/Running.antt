@@ -2,7 +2,6 @@
 use Prim.Native.Nat.{ℕ, _*_, _≤_}
 use mathlib.Core.Path.{_≡_, subst⁻¹}
 use mathlib.Core.List.{List}
-use native.Mathlib.Nat.{mul-le-mul}
 use native.Mathlib.Omega.{arith}
 use lib.ListN.{take}
 use Rattle.geometry.specs.declared.Sense.the-variants.{Greatest}
@@ -19,9 +18,7 @@ use Rattle.fill.specs.declared.Verdict.{Verdict}
 use Rattle.fill.specs.Judge.{verdictOf}
 use Rattle.fill.specs.Limits.{Planned}
 use Rattle.jobfile.specs.declared.Head.{Head}
-use Rattle.jobfile.specs.Limits.{unitLimits}
 use Rattle.jobfile.specs.Forms.{tileSide, tilesAcross}
-use Rattle.jobfile.specs.Held.{amountsRoom}
 use Rattle.unit.specs.declared.run.Answer.{Answer}
 use Rattle.unit.specs.Answering.{answerOf}
 use Rattle.unit.specs.Ready.{Ready, standingOf}
@@ -65,7 +62,3 @@ module _ (h : Head) (rects amounts : List ℕ) where
   pub run-at : (k : ℕ) → k ≡ tilesAcross h * tilesAcross h → {a : Answer} → a ≡ answerOf (standingOf h rects (take k amounts)) →
       a ≡ answerOf (standingOf h rects (take (tilesAcross h * tilesAcross h) amounts))
   run-at k e p = rw e at p
-
--- no more tiles than the table of amounts has room for
-pub tiles-few : (t : ℕ) → t ≤ unitLimits .tiles → t * t ≤ amountsRoom
-tiles-few t h = mul-le-mul h h

@@ -33,7 +33,7 @@ use Rattle.zoom.specs.Limits.{LevelSmall}
 use Rattle.zoom.specs.Grid.{AtStart}
 use Rattle.zoom.proofs.Folds.{no-better-trans, replaced-stays, replaced-area, rows-are, rows-see, rows-replace}
 use Rattle.zoom.proofs.Steps.{step-halves, step-positive}
-use Rattle.zoom.proofs.Starts.{Below, at-start, start-stays, start-fits, start-below, half-start, window-within, far-halves}
+use Rattle.zoom.proofs.Starts.{StartBelow, at-start, start-stays, start-fits, start-below, half-start, window-within, far-halves}
 
 -- ---- the exact run
 
@@ -88,8 +88,8 @@ level-sees s rs n w t b i j h k = rows-see s (farArea s rs n w t) t (startsOn n 
 pub level-bounds : (s : Sense) (rs : List Rect) (n w t : ℕ) (b : Spot) (x y : ℕ) → 1 ≤ t → w ≤ n → x ≤ n - w → y ≤ n - w →
     NoBetter s (windowArea rs w x y) (levelOf s rs n w t b .limit)
 level-bounds s rs n w t b x y p q h k =
-    let across : Below n w t x = start-below n w t x p h in
-    let down : Below n w t y = start-below n w t y p k in
+    let across : StartBelow n w t x = start-below n w t x p h in
+    let down : StartBelow n w t y = start-below n w t y p k in
     no-better-trans s (windowArea rs w x y) (farArea s rs n w t (across .start * t) (down .start * t)) (levelOf s rs n w t b .limit)
     (window-within s rs n w t x y (across .start * t) (down .start * t) (omega arith) (omega arith) (across .before) (across .close) (down .before) (down .close))
     (level-sees s rs n w t b (across .start) (down .start) (across .counts) (down .counts))

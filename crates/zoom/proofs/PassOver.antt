@@ -112,7 +112,7 @@ standard-no-better s rs n w t i j best p q h k b =
 -- ---- the law of passing over, in boxes
 
 -- b lies inside c
-pub record Inside (b c : Rect) : Type 0 where
+pub record LiesIn (b c : Rect) : Type 0 where
   pub left : c .x1 ≤ b .x1
   pub low : c .y1 ≤ b .y1
   pub right : b .x2 ≤ c .x2
@@ -127,7 +127,7 @@ pub record AddsNothing (rs : List Rect) (n w t x y f : ℕ) : Type 0 where
 
 -- a start (x, y) of level j may be passed over if its bloated window lies inside one of an earlier level i of area at most the F of that level
 pub passed-over : (rs : List Rect) (n w i j x y x′ y′ : ℕ) → i ≤ j → x + w ≤ n → y + w ≤ n →
-    Inside (bloated n w (levelStep w j) x y) (bloated n w (levelStep w i) x′ y′) →
+    LiesIn (bloated n w (levelStep w j) x y) (bloated n w (levelStep w i) x′ y′) →
     coveredArea rs (bloated n w (levelStep w i) x′ y′) ≤ levelAt Greatest rs n w i .named .area →
     AddsNothing rs n w (levelStep w j) x y (levelAt Greatest rs n w j .named .area)
 passed-over rs n w i j x y x′ y′ h ex ey l s =

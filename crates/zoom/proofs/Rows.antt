@@ -12,7 +12,7 @@ use Rattle.geometry.specs.declared.Sense.the-variants.{Greatest, Least}
 use Rattle.geometry.specs.Extreme.{bestInRow}
 use Rattle.geometry.specs.Layout.{Drawn, rectsOf}
 use Rattle.buffers.specs.Written.{Front}
-use Rattle.geometry.specs.Overlaps.{StripSmall}
+use Rattle.geometry.specs.Strips.{StripSmall}
 use Rattle.geometry.proofs.Strips.{front-small, front-area}
 use Rattle.extremes.specs.Exact.{windowArea}
 use Rattle.zoom.specs.declared.Grid.{Grid}

@@ -9,7 +9,7 @@ use lib.Seq.{length-take-le}
 use Rattle.geometry.specs.declared.Sense.{Sense}
 use Rattle.geometry.specs.declared.Sense.the-variants.{Greatest, Least}
 use Rattle.buffers.specs.Written.{Front}
-use Rattle.geometry.specs.Overlaps.{stripSum, narrowed, StripSmall}
+use Rattle.geometry.specs.Strips.{stripSum, narrowed, StripSmall}
 use Rattle.buffers.proofs.Fronts.{front-take, front-fits}
 use Rattle.geometry.proofs.Strips.{narrowed-sum, narrowed-small}
 use Rattle.zoom.specs.declared.Grid.{Grid}

@@ -26,13 +26,13 @@ pub fits-start : (n w t i : ℕ) → 1 ≤ t → i * t ≤ n - w → i < startsO
 fits-start n w t i p h = omega (arith, le-div-iff-mul-le p .1 h)
 
 -- the start at or before a position
-pub record Below (n w t x : ℕ) : Type 0 where
+pub record StartBelow (n w t x : ℕ) : Type 0 where
   pub start : ℕ
   pub counts : start < startsOn n w t
   pub before : start * t ≤ x
   pub close : x ≤ start * t + t
 
-pub start-below : (n w t x : ℕ) → 1 ≤ t → x ≤ n - w → Below n w t x
+pub start-below : (n w t x : ℕ) → 1 ≤ t → x ≤ n - w → StartBelow n w t x
 start-below n w t x p h =
     record {
       start = x / t;

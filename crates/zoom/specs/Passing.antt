@@ -10,7 +10,7 @@ use Rattle.geometry.specs.declared.Sense.{Sense}
 use Rattle.geometry.specs.Count.{one-if}
 use Rattle.geometry.specs.Extreme.{better, NoBetter}
 use Rattle.geometry.specs.Layout.{rectsOf, Drawn}
-use Rattle.geometry.specs.Overlaps.{StripSmall}
+use Rattle.geometry.specs.Strips.{StripSmall}
 use Rattle.zoom.specs.declared.Grid.{Grid}
 use Rattle.zoom.specs.Run.{startsOn, farArea}
 use Rattle.zoom.specs.Grid.{Sized}

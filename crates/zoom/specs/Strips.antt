@@ -7,7 +7,7 @@ use lib.ListN.{length, take}
 use Rattle.geometry.specs.declared.Rect.{Rect}
 use Rattle.geometry.specs.declared.Sense.{Sense}
 use Rattle.geometry.specs.declared.Sense.the-variants.{Greatest, Least}
-use Rattle.geometry.specs.Overlaps.{stripOf, stripSum, StripSmall}
+use Rattle.geometry.specs.Strips.{stripOf, stripSum, StripSmall}
 use Rattle.zoom.specs.declared.Grid.{Grid}
 use Rattle.zoom.specs.declared.Part.{Part}
 use Rattle.zoom.specs.Grid.{Sized}

@@ -6,7 +6,7 @@ ghost use mathlib.Core.Path.{_≡_};
 ghost use lib.ListN.{length};
 ghost use Rattle.geometry.specs.Layout.{rectsOf};
 ghost use Rattle.buffers.specs.Written.{Front};
-ghost use Rattle.geometry.specs.Overlaps.{StripSmall};
+ghost use Rattle.geometry.specs.Strips.{StripSmall};
 ghost use Rattle.zoom.specs.Limits.{spanRoom};
 ghost use Rattle.zoom.specs.Strips.{spanFrom, spanTo, stripAt, alongStrip};
 use crate::Grid;

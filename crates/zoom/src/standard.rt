@@ -4,7 +4,7 @@ ghost use Prim.Native.Nat.{_+_, _*_, _≤_};
 ghost use mathlib.Core.Path.{_≡_};
 ghost use Rattle.geometry.specs.Extreme.{spotAt, replaced, bestInRow, bestInRows};
 ghost use Rattle.geometry.specs.Layout.{rectsOf};
-ghost use Rattle.geometry.specs.Overlaps.{StripSmall};
+ghost use Rattle.geometry.specs.Strips.{StripSmall};
 ghost use Rattle.extremes.specs.Exact.{windowArea};
 ghost use Rattle.zoom.specs.Limits.{spanRoom};
 ghost use Rattle.zoom.specs.Strips.{windowAlong};

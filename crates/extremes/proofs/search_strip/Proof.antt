@@ -2,7 +2,7 @@
 use Prim.Native.Nat.{_+_, _-_, _≤_}
 use mathlib.Core.Path.{_≡_, refl}
 use lib.ListN.{length, drop}
-use Rattle.geometry.specs.Overlaps.{stripSum}
+use Rattle.geometry.specs.Strips.{stripSum}
 use Rattle.extremes.specs.Search.{leadingInRow}
 use Rattle.extremes.proofs.Steps.{small-at, passed-next, passed-end}
 use native.Mathlib.Omega.{arith}

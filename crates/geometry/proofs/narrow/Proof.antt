@@ -4,7 +4,7 @@ use Prim.Native.Nat.{_-_}
 use native.Mathlib.Omega.{arith}
 use borrow.Author.Needs.{needs}
 use lib.ListN.{length}
-use Rattle.geometry.specs.Overlaps.{narrowed}
+use Rattle.geometry.specs.Strips.{narrowed}
 use Rattle.buffers.proofs.Fronts.{FrontSoFar, front-starts}
 use Rattle.geometry.proofs.Strips.{narrow-next, narrow-end}
 use Rattle.geometry.proofs.narrow.Statement.{statement}

@@ -4,7 +4,7 @@ use Prim.Native.Nat.{_-_}
 use native.Mathlib.Omega.{arith}
 use borrow.Author.Needs.{needs}
 use lib.ListN.{length}
-use Rattle.geometry.specs.Overlaps.{stripSum}
+use Rattle.geometry.specs.Strips.{stripSum}
 use Rattle.geometry.proofs.Totals.{SoFar, so-far-start, terms-next, terms-end, term-small}
 use Rattle.geometry.proofs.strip_area.Statement.{statement}
 use Rattle.geometry.proofs.strip_area.Tie as tie

@@ -1,17 +1,17 @@
 -- `fill::judging::failing_at` meets its contract: both boxes of tiles lie in the layout, so that their loads are light. Assumes nothing.
 use borrow.Author.Needs.{needs}
 use Rattle.fill.specs.Judge.{numberAt}
-use Rattle.fill.specs.Windows.{InLayout}
+use Rattle.fill.specs.Windows.{TilesInLayout}
 use Rattle.fill.proofs.Windows.{upper-inside, lower-inside, load-light, start-judged}
 use Rattle.fill.proofs.judging.failing_at.Statement.{statement}
 use Rattle.fill.proofs.judging.failing_at.Tie as tie
 
-upper-in : (c : tie.After-tiles-for-upper) → InLayout (c .before .before .args .rule .across) (c .tiles-for-upper .result)
+upper-in : (c : tie.After-tiles-for-upper) → TilesInLayout (c .before .before .args .rule .across) (c .tiles-for-upper .result)
 upper-in c =
     let a = c .before .before .args in
     upper-inside (a .rule) (a .margin) (a .i) (a .j) (c .tiles-for-upper .result) (c .tiles-for-upper .ensures)
 
-lower-in : (c : tie.After-tiles-for-lower) → InLayout (c .before .before .before .before .args .rule .across) (c .tiles-for-lower .result)
+lower-in : (c : tie.After-tiles-for-lower) → TilesInLayout (c .before .before .before .before .args .rule .across) (c .tiles-for-lower .result)
 lower-in c =
     let s = c .before .before .before .before in
     let a = s .args in

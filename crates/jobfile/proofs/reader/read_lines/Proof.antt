@@ -6,13 +6,13 @@ use native.Mathlib.Omega.{arith}
 use borrow.Author.Needs.{needs}
 use denote.Ref.{now}
 use lib.ListN.{length}
-use Rattle.jobfile.proofs.Lines.{SoFar, so-far-start, so-far-next, so-far-bad, so-far-end, from-place}
+use Rattle.jobfile.proofs.Lines.{ReadSoFar, read-so-far-start, read-so-far-next, read-so-far-bad, read-so-far-end, from-place}
 use Rattle.jobfile.proofs.reader.read_lines.Statement.{statement}
 use Rattle.jobfile.proofs.reader.read_lines.Tie as tie
 
 abbrev Inv-loop : tie.InvT-loop
 Inv-loop file rects₀ amounts₀ s₀ line₀ at₀ rects amounts s line at =
-    SoFar file s rects amounts line at × (length rects ≡ length rects₀) × (length amounts ≡ length amounts₀)
+    ReadSoFar file s rects amounts line at × (length rects ≡ length rects₀) × (length amounts ≡ length amounts₀)
 
 abbrev μ-loop : tie.MeasureT-loop
 μ-loop file rects₀ amounts₀ s₀ line₀ at₀ rects amounts s line at = length file - at
@@ -24,19 +24,19 @@ returns c =
     let turn = read .before .before .before .before in
     let loop = turn .before .loop in
     let file = now (turn .before .before .before .before .before .before .args .file) in
-    so-far-bad _ _ _ _ _ _ _ _ _ _ (loop .inv .0) (turn .loop-test .taken) (from-place file (loop .at)) (read .read-line .ensures) (c .if1 .taken)
+    read-so-far-bad _ _ _ _ _ _ _ _ _ _ (loop .inv .0) (turn .loop-test .taken) (from-place file (loop .at)) (read .read-line .ensures) (c .if1 .taken)
 
 -- a good line
 again : (c : tie.After-struct-known Inv-loop μ-loop) →
     let read = c .before .before .before .before .before .before .before in
     let loop = read .before .before .before .before .before .loop in
-    SoFar (now (read .before .before .before .before .before .before .before .before .before .before .args .file)) (read .read-line .result .state)
+    ReadSoFar (now (read .before .before .before .before .before .before .before .before .before .before .args .file)) (read .read-line .result .state)
     (read .read-line .last .1 .1 .0) (read .read-line .last .1 .1 .1 .0) (loop .line + 1) (loop .at + read .read-line .result .used)
 again c =
     let read = c .before .before .before .before .before .before .before in
     let loop = read .before .before .before .before .before .loop in
     let file = now (read .before .before .before .before .before .before .before .before .before .before .args .file) in
-    so-far-next _ _ _ _ _ _ _ _ _ _ (loop .inv .0) (from-place file (loop .at)) (read .read-line .ensures) (c .before .before .if1 .left)
+    read-so-far-next _ _ _ _ _ _ _ _ _ _ (loop .inv .0) (from-place file (loop .at)) (read .read-line .ensures) (c .before .before .if1 .left)
 
 loop-again : tie.Need-loop-again Inv-loop μ-loop
 loop-again c =
@@ -57,7 +57,7 @@ same-length-2 c =
 loop-holds : tie.Need-loop-holds Inv-loop μ-loop
 loop-holds c =
     let start = c .before .before .before .before in (
-      so-far-start (now (start .args .file)) (now (start .args .rects)) (now (start .args .amounts)) _ (start .pre .0) (start .pre .1)
+      read-so-far-start (now (start .args .file)) (now (start .args .rects)) (now (start .args .amounts)) _ (start .pre .0) (start .pre .1)
           (c .no-head .ensures),
       refl,
       refl,
@@ -72,4 +72,4 @@ read-lines-spec =
     (λ c. record { fits = omega (arith, again c .within, again c .lines) })
     (λ c. omega (arith, c .before .before .before .before .before .before .before .read-line .ensures .used))
     loop-again (λ c κs. search needs) (λ c. c .before .before .loop .inv .1) (λ c. c .before .before .loop .inv .2)
-    (λ c. so-far-end _ _ _ _ _ _ _ (c .before .before .loop .inv .0) (c .before .loop-test .left) (c .end-fault .ensures)))
+    (λ c. read-so-far-end _ _ _ _ _ _ _ (c .before .before .loop .inv .0) (c .before .loop-test .left) (c .end-fault .ensures)))
