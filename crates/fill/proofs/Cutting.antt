@@ -16,7 +16,7 @@ use Rattle.geometry.specs.Layout.{rectsOf}
 use Rattle.geometry.specs.Overlaps.{rectAt}
 use Rattle.geometry.proofs.Tables.{rects-next, rects-end}
 use Rattle.fill.specs.Free.{grown, grownAll, freeArea, freeFrom, isEmpty, meeting, below, leftOf, rightOf, above, aroundFrom, Within}
-use Rattle.fill.specs.Limits.{SmallBox}
+use Rattle.fill.specs.Sizes.{SmallBox}
 use Rattle.fill.proofs.Grown.{free-small, free-none, free-apart, free-around}
 
 -- ---- whether a box has squares

@@ -25,7 +25,7 @@ use Rattle.fill.specs.declared.Verdict.the-variants.{Broken}
 use Rattle.fill.specs.Eligible.{tile, fillableArea}
 use Rattle.fill.specs.Judge.{TileBox, numberAt, load, standardTiles, bloatedTiles, shrunkTiles, failingAt, startsAcross, standardFailing, marginFailing, judged, verdictOf}
 use Rattle.fill.specs.Windows.{ruleOf, loadOf, tilesForUpper, tilesForLower, failingBy, searchBy, allTiles, Loads, Filled}
-use Rattle.fill.specs.Limits.{mostAcross, tilesRoom, topBound, Tiled}
+use Rattle.fill.specs.Sizes.{mostAcross, tilesRoom, topBound, Tiled}
 use Rattle.fill.proofs.Grown.{fillable-small}
 use Rattle.fill.proofs.Starts.{rows-cong}
 use Rattle.fill.proofs.Cutting.{same-box}

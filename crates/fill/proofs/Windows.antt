@@ -14,7 +14,7 @@ use Rattle.fill.specs.declared.judging.Rule.{Rule}
 use Rattle.fill.specs.declared.Bound.the-variants.{Over, Under}
 use Rattle.fill.specs.declared.Failing.{Failing}
 use Rattle.fill.specs.declared.Failing.the-variants.{Nowhere, At}
-use Rattle.fill.specs.Limits.{heaviest}
+use Rattle.fill.specs.Sizes.{heaviest}
 use Rattle.fill.specs.Windows.{tilesForUpper, tilesForLower, failingWithin, failingBy, isFound, allTiles, Loads, IsTile, InRow, TilesInLayout, IsStart}
 use Rattle.fill.specs.Judge.{TileBox, numberAt}
 use Rattle.fill.proofs.Starts.{firstOf, none-more, found-more}

@@ -1,7 +1,7 @@
 pub mod Eligible
 pub mod Judge
 pub mod Placement
-pub mod Limits
+pub mod Sizes
 pub mod Free
 pub mod Windows
 pub mod Cases

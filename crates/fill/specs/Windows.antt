@@ -13,7 +13,7 @@ use Rattle.fill.specs.declared.judging.Rule.{Rule}
 use Rattle.fill.specs.declared.Bound.the-variants.{Over, Under}
 use Rattle.fill.specs.declared.Failing.{Failing}
 use Rattle.fill.specs.declared.Failing.the-variants.{Nowhere, At}
-use Rattle.fill.specs.Limits.{mostAcross, heaviest}
+use Rattle.fill.specs.Sizes.{mostAcross, heaviest}
 use Rattle.fill.specs.Judge.{TileBox, numberAt, load, failingInRows}
 
 -- what the loads of a plan are judged by

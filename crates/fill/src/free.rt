@@ -8,7 +8,7 @@ ghost use mathlib.Core.Path.{_≡_};
 ghost use lib.ListN.{length};
 ghost use Rattle.geometry.specs.Overlaps.{rectAt};
 ghost use Rattle.fill.specs.Free.{grown, freeFrom, aroundFrom, isEmpty, meeting};
-ghost use Rattle.fill.specs.Limits.{SmallBox, Upright, Growable, Around};
+ghost use Rattle.fill.specs.Sizes.{SmallBox, Upright, Growable, Around};
 
 fn is_empty(b: Rect) -> bool
     ensures { λ r. ⌜ r ≡ isEmpty b ⌝ }

@@ -8,7 +8,7 @@ ghost use Prim.Native.Nat.{suc, _-_, _≤_};
 ghost use mathlib.Core.Path.{_≡_};
 ghost use Rattle.geometry.specs.Count.{span, boxSum};
 ghost use Rattle.fill.specs.declared.Failing.the-variants.{Nowhere};
-ghost use Rattle.fill.specs.Limits.{heaviest};
+ghost use Rattle.fill.specs.Sizes.{heaviest};
 ghost use Rattle.fill.specs.Judge.{numberAt, failingInRow, judged};
 ghost use Rattle.fill.specs.Windows.{tilesForUpper, tilesForLower, failingWithin, failingBy, searchBy, isFound, Loads, IsTile, InRow, TilesInLayout, IsStart};
 
@@ -89,16 +89,16 @@ fn tiles_for_lower(rule: Rule, margin: u64, i: u64, j: u64) -> Rect
     }
 }
 
-// The bound that a start fails, U before L: `upper` and `lower` are the sums that
+// The bound that a start fails, U before L: `outer` and `inner` are the sums that
 // U and L are judged by.
-fn failed(rule: Rule, i: u64, j: u64, upper: u64, lower: u64) -> Failing
-    requires { ⌜ (upper ≤ heaviest) × (lower ≤ heaviest) ⌝ }
-    ensures { λ f. ⌜ f ≡ failingWithin rule i j upper lower ⌝ }
+fn failed(rule: Rule, i: u64, j: u64, outer: u64, inner: u64) -> Failing
+    requires { ⌜ (outer ≤ heaviest) × (inner ≤ heaviest) ⌝ }
+    ensures { λ f. ⌜ f ≡ failingWithin rule i j outer inner ⌝ }
 {
-    if rule.high < 10000 * upper {
+    if rule.high < 10000 * outer {
         return Failing::At(Bound::Over, i, j);
     }
-    if 10000 * lower < rule.low {
+    if 10000 * inner < rule.low {
         return Failing::At(Bound::Under, i, j);
     }
     Failing::Nowhere
@@ -110,9 +110,9 @@ fn failing_at(loads: &[u64], rule: Rule, margin: u64, i: u64, j: u64) -> Failing
     requires { ⌜ IsStart rule margin i j ⌝ }
     ensures { λ f. ⌜ f ≡ failingBy (numberAt (now (loads .entry)) (rule .across)) rule margin i j ⌝ }
 {
-    let upper = tiles_load(loads, rule.across, tiles_for_upper(rule, margin, i, j));
-    let lower = tiles_load(loads, rule.across, tiles_for_lower(rule, margin, i, j));
-    failed(rule, i, j, upper, lower)
+    let outer = tiles_load(loads, rule.across, tiles_for_upper(rule, margin, i, j));
+    let inner = tiles_load(loads, rule.across, tiles_for_lower(rule, margin, i, j));
+    failed(rule, i, j, outer, inner)
 }
 
 fn is_found(f: Failing) -> bool

@@ -6,7 +6,7 @@ ghost use Rattle.geometry.specs.Sizes.{widest};
 ghost use Rattle.geometry.specs.Layout.{rectsOf};
 ghost use Rattle.fill.specs.Eligible.{tile, fillableArea};
 ghost use Rattle.fill.specs.Judge.{verdictOf};
-ghost use Rattle.fill.specs.Limits.{SmallBox, Planned};
+ghost use Rattle.fill.specs.Sizes.{SmallBox, Planned};
 
 mod free;
 mod judging;
@@ -14,9 +14,9 @@ mod tiling;
 
 // How many tiles may lie across a layout, and the numbers of a table with one for
 // each.
-pub const MOST_ACROSS: usize = 64;
+const MOST_ACROSS: usize = 64;
 
-pub const TILES_ROOM: usize = MOST_ACROSS * MOST_ACROSS;
+const TILES_ROOM: usize = MOST_ACROSS * MOST_ACROSS;
 
 // The bound that a window fails: over says that U fails, under that L does.
 pub enum Bound {

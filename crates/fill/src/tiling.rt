@@ -6,7 +6,7 @@ ghost use Prim.Native.Nat.{_*_, _≤_, _<_};
 ghost use mathlib.Core.Path.{_≡_};
 ghost use lib.ListN.{length};
 ghost use Rattle.geometry.specs.Layout.{rectsOf};
-ghost use Rattle.fill.specs.Limits.{Tiled};
+ghost use Rattle.fill.specs.Sizes.{Tiled};
 ghost use Rattle.fill.specs.Windows.{loadOf, Filled};
 
 // The load of tile number t, row by row.

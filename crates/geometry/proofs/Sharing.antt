@@ -6,7 +6,7 @@ use mathlib.Core.List.{List}
 use native.Mathlib.Omega.{arith}
 use lib.Dec.{T, leb, ltb, leb→le, le→leb, ltb→lt, lt→ltb}
 use borrow.Author.Tests.{lt-ltb, ltb-true}
-use Rattle.laws.proofs.Tests.{T-and, T-both}
+use Rattle.laws.proofs.Tests.{true-false, T-and, T-both}
 use Rattle.geometry.specs.declared.Rect.{Rect}
 use Rattle.geometry.specs.Count.{one-if}
 use Rattle.geometry.specs.Layout.{holds, covered, coveredArea, sharesSquare}
@@ -70,8 +70,4 @@ shares→shared rs b e =
 
 -- no shared square: what `Disjoint` asks of a rectangle and the others
 pub shares-none : (rs : List Rect) (b : Rect) → sharesSquare rs b ≡ false → (x y : ℕ) → T (holds b x y) → T (covered rs x y) → ⊥
-shares-none rs b e x y h k = go (sharesSquare rs b) e (shared→shares rs b (record { x = x; y = y; in-box = h; in-drawn = k }))
-  where
-    go : (p : Bool) → p ≡ false → p ≡ true → ⊥
-    go true f t = let z : _≡_ {A = ℕ} 0 1 = cc in omega arith
-    go false f t = let z : _≡_ {A = ℕ} 0 1 = cc in omega arith
+shares-none rs b e x y h k = true-false (sharesSquare rs b) (shared→shares rs b (record { x = x; y = y; in-box = h; in-drawn = k })) e

@@ -26,15 +26,15 @@ spotAt f x y = record { area = f x y; x = x; y = y }
 abbrev pub replaced : Sense → Spot → Spot → Spot
 replaced s old new = elim (better s (new .area) (old .area)) [ true ↦ new | false ↦ old ]
 
--- the best of the first n starts of the row at y, t apart, where b stood before
-unfoldable pub bestInRow : Sense → (ℕ → ℕ → ℕ) → (t y n : ℕ) → Spot → Spot
+-- the best of the first k starts of the row at y, t apart, where b stood before
+unfoldable pub bestInRow : Sense → (ℕ → ℕ → ℕ) → (t y k : ℕ) → Spot → Spot
 bestInRow s f t y zero b = b
-bestInRow s f t y (suc n) b = replaced s (bestInRow s f t y n b) (spotAt f (n * t) y)
+bestInRow s f t y (suc k) b = replaced s (bestInRow s f t y k b) (spotAt f (k * t) y)
 
--- the best of the first m rows of n starts each, t apart on both axes, where b stood before
-unfoldable pub bestInRows : Sense → (ℕ → ℕ → ℕ) → (t n m : ℕ) → Spot → Spot
-bestInRows s f t n zero b = b
-bestInRows s f t n (suc m) b = bestInRow s f t (m * t) n (bestInRows s f t n m b)
+-- the best of the first m rows of k starts each, t apart on both axes, where b stood before
+unfoldable pub bestInRows : Sense → (ℕ → ℕ → ℕ) → (t k m : ℕ) → Spot → Spot
+bestInRows s f t k zero b = b
+bestInRows s f t k (suc m) b = bestInRow s f t (m * t) k (bestInRows s f t k m b)
 
 -- a window in numbers, as it is printed: area, x, y, and what follows them
 abbrev pub spotNumbers : Spot → List ℕ → List ℕ

@@ -29,6 +29,8 @@ sharesSquare rs b = ltb 0 (coveredArea rs b)
 abbrev pub windowBox : ℕ → ℕ → ℕ → Rect
 windowBox w x y = record { x1 = x; y1 = y; x2 = x + w; y2 = y + w }
 
+-- ---- what the code asks; a buyer need not read on
+
 -- no unit square lies in two of the rectangles
 unfoldable pub Disjoint : List Rect → Type 0
 Disjoint [] = Unit {0}

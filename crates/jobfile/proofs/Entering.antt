@@ -35,7 +35,7 @@ heading-turn Shapes h e = absurd (false≢true e)
 heading-turn Fills h e = absurd (false≢true e)
 heading-turn Done h e = absurd (false≢true e)
 
--- a good head has at most 64 tiles across, so at most 4,096
+-- a good head has no more tiles across than are allowed, so the table of amounts has room for all
 pub few-across : (h : Head) → agrees unitLimits h ≡ true → tilesAcross h ≤ unitLimits .tiles
 few-across h e = agreement unitLimits h e .few
 
@@ -86,7 +86,7 @@ module _ (s : State) (rects amounts : List ℕ) (k : Held s rects amounts) where
       (λ sound.
       record {
         room = k .room;
-        cells = k .cells;
+        amounts-room = k .amounts-room;
         count = lit≤ tt;
         tiles = few;
         behind = z .rects-zero;
@@ -124,7 +124,7 @@ module _ (s : State) (rects amounts : List ℕ) (k : Held s rects amounts) where
       (λ sound.
       record {
         room = stored-length rects (s .count) r space ∙ k .room;
-        cells = k .cells;
+        amounts-room = k .amounts-room;
         count = omega (arith, shape-room r e);
         tiles = k .tiles;
         behind = rw (add-one (s .count)) (stored-behind rects (s .count) r space ∙ later);
@@ -154,7 +154,7 @@ module _ (s : State) (rects amounts : List ℕ) (k : Held s rects amounts) where
       (λ sound.
       record {
         room = k .room;
-        cells = length-set amounts (tileIndex (tilesAcross (s .head)) i j) p ∙ k .cells;
+        amounts-room = length-set amounts (tileIndex (tilesAcross (s .head)) i j) p ∙ k .amounts-room;
         count = k .count;
         tiles = k .tiles;
         behind = k .behind;
@@ -171,7 +171,7 @@ module _ (s : State) (rects amounts : List ℕ) (k : Held s rects amounts) where
   on-end e =
       entered s rects amounts End (record { turn = Done; head = s .head; count = s .count }) rects amounts k e refl
       (λ sound.
-      record { room = k .room; cells = k .cells; count = k .count; tiles = k .tiles; behind = k .behind; beyond = k .beyond; sound = sound })
+      record { room = k .room; amounts-room = k .amounts-room; count = k .count; tiles = k .tiles; behind = k .behind; beyond = k .beyond; sound = sound })
 
   -- by the form of the line, as the code knows it
   pub enter-unknown : (f : Form) → f ≡ Unknown → lineFault unitLimits (standing s rects amounts) f ≡ 0 → Entered s rects amounts f s rects amounts
@@ -192,7 +192,7 @@ module _ (s : State) (rects amounts : List ℕ) (k : Held s rects amounts) where
   pub fill-space : (f : Form) (i j p : ℕ) → f ≡ Fill i j p → lineFault unitLimits (standing s rects amounts) f ≡ 0 →
       TileIn (s .head) i j × (tileIndex (tilesAcross (s .head)) i j < length amounts)
   fill-space f i j p q e =
-      (record { few = few-across (s .head) (head .agreement); column = g .column; row = g .row }, omega (arith, digits-lt (g .row) (g .column), few-tiles (s .head) (head .agreement), k .cells))
+      (record { few = few-across (s .head) (head .agreement); column = g .column; row = g .row }, omega (arith, digits-lt (g .row) (g .column), few-tiles (s .head) (head .agreement), k .amounts-room))
     where
       g : NoFillFault (standing s rects amounts) i j p
       g = fill-good i j p (rw q at e)

@@ -15,7 +15,7 @@ use Rattle.geometry.specs.Sizes.{widest}
 use Rattle.geometry.specs.Layout.{rectsOf, sharesSquare}
 use Rattle.fill.specs.Eligible.{tile, fillableArea}
 use Rattle.fill.specs.Judge.{tileIndex, numberAt}
-use Rattle.fill.specs.Limits.{SmallBox}
+use Rattle.fill.specs.Sizes.{SmallBox}
 use Rattle.jobfile.specs.declared.Head.{Head}
 use Rattle.jobfile.specs.declared.Form.{Form}
 use Rattle.jobfile.specs.declared.Form.the-variants.{Unknown, Heading, Shape, Fill, End}
@@ -147,9 +147,9 @@ pub tile-in-table : (s : State) (rects amounts : List ℕ) (i j t at : ℕ) → 
 tile-in-table s rects amounts i j t at k e hi hj place = rw place (lt-of-lt-of-le (rw (← e) (digits-lt hj hi)) (k .tiles))
 
 -- what the fillable area of a tile asks of the table and the tile's box
-pub tile-small : (s : State) (rects : List ℕ) (i j : ℕ) (b : Rect) → TileAsked s rects i j → b ≡ tile (tileSide (s .head)) i j →
+pub tile-asked-small : (s : State) (rects : List ℕ) (i j : ℕ) (b : Rect) → TileAsked s rects i j → b ≡ tile (tileSide (s .head)) i j →
     SmallBox (take (4 * s .count) rects) (s .head .gap) b
-tile-small s rects i j b k e =
+tile-asked-small s rects i j b k e =
     rw e
     (record {
       numbers = k .shapes .drawn .small;

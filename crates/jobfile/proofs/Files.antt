@@ -10,7 +10,7 @@ use lib.Dec.{leb, ltb, eqb}
 use lib.Seq.{take-all}
 use lib.ListN.{length, drop, length-drop}
 use borrow.Author.Tests.{eqb-true, eqb-false, leb-true, leb-false, ltb-true, ltb-false}
-use Rattle.spelling.specs.Text.{inFront, parts}
+use Rattle.spelling.specs.Text.{inFront, pieces}
 use Rattle.spelling.specs.Decimal.{EachShort}
 use Rattle.spelling.specs.Scanning.{lineLength}
 use Rattle.jobfile.specs.declared.Form.{Form}
@@ -50,7 +50,7 @@ line-fault m st line = go (known (formOf m line)) refl
     go true e = spelled (form-spelled m line e)
     go false e =
         rw (unknown-fault m st (formOf m line) e)
-        (unspelled (λ f s. false≢true (sym e ∙ ap known (spells-read m line f s) ∙ s .form)))
+        (unspelled (λ f s. false≢true (sym e ∙ ap known (spells-read m line f s) ∙ s .is-known)))
 
 line-fault-is : (m : Limits) (st : Standing) (line : List ℕ) (number : ℕ) → LineFault m st line number → lineFault m st (formOf m line) ≡ number
 line-fault-is m st line number (spelled {f = f} s) = ap (lineFault m st) (spells-read m line f s)
@@ -68,27 +68,27 @@ data Comes (m : Limits) (st : Standing) (k : ℕ) (s : List ℕ) : Outcome → T
   faults : {number line : ℕ} → FirstFault m st k s number line → Comes m st k s (refused number line)
 
 -- the pieces of a text that begins with a line
-parts-first : (line s : List ℕ) → feedless line ≡ true → parts (line ++ (10 ∷ s)) ≡ line ∷ parts s
-unfolding parts
-parts-first [] s e = refl
-parts-first (b ∷ line) s e = let k = feedless-first b line e in rw (k .0, parts) (ap (inFront b) (parts-first line s (k .1)))
+pieces-first : (line s : List ℕ) → feedless line ≡ true → pieces (line ++ (10 ∷ s)) ≡ line ∷ pieces s
+unfolding pieces
+pieces-first [] s e = refl
+pieces-first (b ∷ line) s e = let k = feedless-first b line e in rw (k .0, pieces) (ap (inFront b) (pieces-first line s (k .1)))
 
 -- a line later is one form more
 later : (n k : ℕ) → n + suc k ≡ suc n + k
 later n k = omega arith
 
--- good forms are passed
+-- good forms are forms-passed
 pass : {m : Limits} {st st′ : Standing} {fs : List Form} → Good m st fs st′ → (k : ℕ) (rest : List ℕ) →
-    readLines m st k (parts (formsText fs ++ rest)) ≡ readLines m st′ (length fs + k) (parts rest)
+    readLines m st k (pieces (formsText fs ++ rest)) ≡ readLines m st′ (length fs + k) (pieces rest)
 unfolding formsText
-pass {m = m} (none {st = x}) k rest = ap (λ (n : ℕ). readLines m x n (parts rest)) (sym (zero-add k))
+pass {m = m} (none {st = x}) k rest = ap (λ (n : ℕ). readLines m x n (pieces rest)) (sym (zero-add k))
 pass {m = m} (next {st = x} {st′ = y} {f = f} {fs = fs} short e g) k rest =
-    ap (λ (t : List ℕ). readLines m x k (parts t)) (append-assoc (spellingOf f) (10 ∷ formsText fs) rest)
-    ∙ ap (readLines m x k) (parts-first (spellingOf f) (formsText fs ++ rest) (spelling-feedless f))
+    ap (λ (t : List ℕ). readLines m x k (pieces t)) (append-assoc (spellingOf f) (10 ∷ formsText fs) rest)
+    ∙ ap (readLines m x k) (pieces-first (spellingOf f) (formsText fs ++ rest) (spelling-feedless f))
     ∙ good-next m x k (spellingOf f) (formsText fs ++ rest) (rw same e)
-    ∙ ap (λ (h : Form). readLines m (standsAfter x h) (suc k) (parts (formsText fs ++ rest))) same
+    ∙ ap (λ (h : Form). readLines m (standsAfter x h) (suc k) (pieces (formsText fs ++ rest))) same
     ∙ pass g (suc k) rest
-    ∙ ap (λ (n : ℕ). readLines m y n (parts rest)) (later (length fs) k)
+    ∙ ap (λ (n : ℕ). readLines m y n (pieces rest)) (later (length fs) k)
   where
     same : formOf m (spellingOf f) ≡ f
     same = good-read m x f short e
@@ -101,40 +101,40 @@ at-end Fills k st n = refl
 at-end Done k st n = absurd (n refl)
 
 -- the pieces of a text without a line feed
-parts-feedless : (s : List ℕ) → feedless s ≡ true → parts s ≡ s ∷ []
-unfolding parts
-parts-feedless [] e = refl
-parts-feedless (b ∷ s) e = let k = feedless-first b s e in rw (k .0, parts) (ap (inFront b) (parts-feedless s (k .1)))
+pieces-feedless : (s : List ℕ) → feedless s ≡ true → pieces s ≡ s ∷ []
+unfolding pieces
+pieces-feedless [] e = refl
+pieces-feedless (b ∷ s) e = let k = feedless-first b s e in rw (k .0, pieces) (ap (inFront b) (pieces-feedless s (k .1)))
 
 after-some : (st : Standing) (k : ℕ) (s : List ℕ) → 0 < length s → afterLast st k s ≡ refused 2 k
 after-some st k [] h = absurd (omega arith)
 after-some st k (b ∷ s) h = refl
 
 -- nothing is left after good forms
-passed : {m : Limits} {st st′ : Standing} {fs : List Form} (k : ℕ) (s : List ℕ) → s ≡ formsText fs → Good m st fs st′ →
-    readLines m st k (parts s) ≡ atEnd (st′ .turn) (length fs + k) st′
-unfolding parts
-passed {m = m} {st = x} {st′ = y} {fs = fs} k s e g =
-    ap (λ (t : List ℕ). readLines m x k (parts t)) (e ∙ sym (append-nil (formsText fs))) ∙ pass g k [] ∙ read-last m y (length fs + k) []
+forms-passed : {m : Limits} {st st′ : Standing} {fs : List Form} (k : ℕ) (s : List ℕ) → s ≡ formsText fs → Good m st fs st′ →
+    readLines m st k (pieces s) ≡ atEnd (st′ .turn) (length fs + k) st′
+unfolding pieces
+forms-passed {m = m} {st = x} {st′ = y} {fs = fs} k s e g =
+    ap (λ (t : List ℕ). readLines m x k (pieces t)) (e ∙ sym (append-nil (formsText fs))) ∙ pass g k [] ∙ read-last m y (length fs + k) []
 
 -- something is left after good forms
 left : {m : Limits} {st st′ : Standing} {fs : List Form} (k : ℕ) (s rest : List ℕ) → s ≡ formsText fs ++ rest → Good m st fs st′ →
-    readLines m st k (parts s) ≡ readLines m st′ (length fs + k) (parts rest)
-left {m = m} {st = x} k s rest e g = ap (λ (t : List ℕ). readLines m x k (parts t)) e ∙ pass g k rest
+    readLines m st k (pieces s) ≡ readLines m st′ (length fs + k) (pieces rest)
+left {m = m} {st = x} k s rest e g = ap (λ (t : List ℕ). readLines m x k (pieces t)) e ∙ pass g k rest
 
 first-fault : {m : Limits} {st : Standing} {k : ℕ} {s : List ℕ} {number line : ℕ} → FirstFault m st k s number line →
-    readLines m st k (parts s) ≡ refused number line
+    readLines m st k (pieces s) ≡ refused number line
 first-fault {m = m} {k = k} {s = s} (faulty fs {st′ = y} {number = number} line after e f g fault n) =
     left k s (line ++ (10 ∷ after)) e g
-    ∙ ap (readLines m y (length fs + k)) (parts-first line after f)
+    ∙ ap (readLines m y (length fs + k)) (pieces-first line after f)
     ∙ bad-next m y (length fs + k) line after (λ z. n (sym same ∙ z))
     ∙ ap (λ (i : ℕ). refused i (length fs + k)) same
   where
     same : lineFault m y (formOf m line) ≡ number
     same = line-fault-is m y line number fault
 first-fault {m = m} {k = k} {s = s} (unfed fs {st′ = y} line e f h g) =
-    left k s line e g ∙ ap (readLines m y (length fs + k)) (parts-feedless line f) ∙ read-last m y (length fs + k) line ∙ after-some y (length fs + k) line h
-first-fault {k = k} {s = s} (unended fs {st′ = y} e g n) = passed k s e g ∙ at-end (y .turn) (length fs + k) y n
+    left k s line e g ∙ ap (readLines m y (length fs + k)) (pieces-feedless line f) ∙ read-last m y (length fs + k) line ∙ after-some y (length fs + k) line h
+first-fault {k = k} {s = s} (unended fs {st′ = y} e g n) = forms-passed k s e g ∙ at-end (y .turn) (length fs + k) y n
 
 -- ---- every text comes to something
 
@@ -218,7 +218,7 @@ comes-bad m st k s h n = subst (FirstFault m st k s (firstFault m st s)) (zero-a
 
 -- one line, where it is known what the text after it comes to
 one-line : (m : Limits) (n : ℕ) (s : List ℕ) (st : Standing) (k : ℕ) → length s ≤ suc n → 0 < length s →
-    ((rest : List ℕ) → length rest ≤ n → (x : Standing) (j : ℕ) → Comes m x j rest (readLines m x j (parts rest))) → Comes m st k s (readLines m st k (parts s))
+    ((rest : List ℕ) → length rest ≤ n → (x : Standing) (j : ℕ) → Comes m x j rest (readLines m x j (pieces rest))) → Comes m st k s (readLines m st k (pieces s))
 one-line m n s st k h p after = go (eqb (firstFault m st s) 0) refl
   where
     rest : List ℕ
@@ -227,28 +227,28 @@ one-line m n s st k h p after = go (eqb (firstFault m st s) 0) refl
     f : Form
     f = formOf m (firstLine s)
 
-    go : (x : Bool) → eqb (firstFault m st s) 0 ≡ x → Comes m st k s (readLines m st k (parts s))
+    go : (x : Bool) → eqb (firstFault m st s) 0 ≡ x → Comes m st k s (readLines m st k (pieces s))
     go true e =
         let z = eqb-true (firstFault m st s) 0 e in
         let fed = good-fed m st k s z in
         let good : lineFault m st f ≡ 0 = sym (fed-fault m st k s fed) ∙ z in
         let spells = good-spells m st (firstLine s) good in
         rw (line-good m st k s z)
-        (subst (λ (t : List ℕ). Comes m st k t (readLines m (standsAfter st f) (suc k) (parts rest)))
+        (subst (λ (t : List ℕ). Comes m st k t (readLines m (standsAfter st f) (suc k) (pieces rest)))
         (sym (at-feed s fed ∙ ap (λ (l : List ℕ). l ++ (10 ∷ rest)) (spells .spelling)))
-        (comes-next m st k f (spells .short) good rest (readLines m (standsAfter st f) (suc k) (parts rest))
+        (comes-next m st k f (spells .short) good rest (readLines m (standsAfter st f) (suc k) (pieces rest))
         (after rest (omega (arith, length-drop (suc (lineLength s)) s)) (standsAfter st f) (suc k))))
     go false e =
         let n = eqb-false (firstFault m st s) 0 e in rw (line-bad m st k s p n) (faults (comes-bad m st k s p n))
 
 line-or-end : (m : Limits) (n : ℕ) (s : List ℕ) (st : Standing) (k : ℕ) → length s ≤ suc n →
-    ((rest : List ℕ) → length rest ≤ n → (x : Standing) (j : ℕ) → Comes m x j rest (readLines m x j (parts rest))) → Comes m st k s (readLines m st k (parts s))
-unfolding parts readLines
+    ((rest : List ℕ) → length rest ≤ n → (x : Standing) (j : ℕ) → Comes m x j rest (readLines m x j (pieces rest))) → Comes m st k s (readLines m st k (pieces s))
+unfolding pieces readLines
 line-or-end m n [] st k h after = comes-end m st k
 line-or-end m n (b ∷ s) st k h after = one-line m n (b ∷ s) st k h (omega arith) after
 
-comes : (m : Limits) (n : ℕ) (s : List ℕ) → length s ≤ n → (st : Standing) (k : ℕ) → Comes m st k s (readLines m st k (parts s))
-unfolding parts readLines
+comes : (m : Limits) (n : ℕ) (s : List ℕ) → length s ≤ n → (st : Standing) (k : ℕ) → Comes m st k s (readLines m st k (pieces s))
+unfolding pieces readLines
 comes m zero [] h st k = comes-end m st k
 comes m zero (b ∷ s) h st k = absurd (omega arith)
 comes m (suc n) s h st k = line-or-end m n s st k h (λ rest l x j. comes m n rest l x j)
@@ -257,41 +257,41 @@ comes m (suc n) s h st k = line-or-end m n s st k h (λ rest l x j. comes m n re
 
 module _ (m : Limits) (file : List ℕ) where
   accepted-if : (st : Standing) → AcceptedFile m file st → outcomeOf m file ≡ accepted st
-  accepted-if st a = sym (short-enough m file (a .size)) ∙ passed 1 file (a .text) (a .good) ∙ ap (λ (t : Turn). atEnd t (length (a .forms) + 1) st) (a .ended)
+  accepted-if st a = sym (short-enough m file (a .fits)) ∙ forms-passed 1 file (a .text) (a .good) ∙ ap (λ (t : Turn). atEnd t (length (a .forms) + 1) st) (a .ended)
 
   refused-if : (number line : ℕ) → RefusedFile m file number line → outcomeOf m file ≡ refused number line
   refused-if number line (long h) = sym (too-long m file h)
   refused-if number line (lines h c) = sym (short-enough m file h) ∙ first-fault c
 
 -- every file is one or the other
-data Judged (m : Limits) (file : List ℕ) : Outcome → Type 0 where
-  good : {st : Standing} → AcceptedFile m file st → Judged m file (accepted st)
-  bad : {number line : ℕ} → RefusedFile m file number line → Judged m file (refused number line)
+data OneOrOther (m : Limits) (file : List ℕ) : Outcome → Type 0 where
+  good : {st : Standing} → AcceptedFile m file st → OneOrOther m file (accepted st)
+  bad : {number line : ℕ} → RefusedFile m file number line → OneOrOther m file (refused number line)
 
-judged : (m : Limits) (file : List ℕ) → Judged m file (outcomeOf m file)
-judged m file = go (leb (length file) (m .bytes)) refl
+one-or-other : (m : Limits) (file : List ℕ) → OneOrOther m file (outcomeOf m file)
+one-or-other m file = go (leb (length file) (m .bytes)) refl
   where
-    read : {o : Outcome} → length file ≤ m .bytes → Comes m beforeHead 1 file o → Judged m file o
-    read h (ends fs t g d) = good (record { forms = fs; size = h; text = t; good = g; ended = d })
+    read : {o : Outcome} → length file ≤ m .bytes → Comes m beforeHead 1 file o → OneOrOther m file o
+    read h (ends fs t g d) = good (record { forms = fs; fits = h; text = t; good = g; ended = d })
     read h (faults c) = bad (lines h c)
 
-    go : (x : Bool) → leb (length file) (m .bytes) ≡ x → Judged m file (outcomeOf m file)
+    go : (x : Bool) → leb (length file) (m .bytes) ≡ x → OneOrOther m file (outcomeOf m file)
     go true e =
         let h = leb-true (length file) (m .bytes) e in
         rw (← short-enough m file h) (read h (comes m (length file) file (le-refl (length file)) beforeHead 1))
     go false e = let h = leb-false (length file) (m .bytes) e in rw (← too-long m file h) (bad (long h))
 
 accepted-only-if : (m : Limits) (file : List ℕ) (st : Standing) → outcomeOf m file ≡ accepted st → AcceptedFile m file st
-accepted-only-if m file st e = go (outcomeOf m file) e (judged m file)
+accepted-only-if m file st e = go (outcomeOf m file) e (one-or-other m file)
   where
-    go : (o : Outcome) → o ≡ accepted st → Judged m file o → AcceptedFile m file st
+    go : (o : Outcome) → o ≡ accepted st → OneOrOther m file o → AcceptedFile m file st
     go o q (good {st = x} a) = let same : x ≡ st = cc in subst (AcceptedFile m file) same a
     go o q (bad f) = let z : _≡_ {A = ℕ} 0 1 = cc in absurd (omega arith)
 
 refused-only-if : (m : Limits) (file : List ℕ) (number line : ℕ) → outcomeOf m file ≡ refused number line → RefusedFile m file number line
-refused-only-if m file number line e = go (outcomeOf m file) e (judged m file)
+refused-only-if m file number line e = go (outcomeOf m file) e (one-or-other m file)
   where
-    go : (o : Outcome) → o ≡ refused number line → Judged m file o → RefusedFile m file number line
+    go : (o : Outcome) → o ≡ refused number line → OneOrOther m file o → RefusedFile m file number line
     go o q (good a) = let z : _≡_ {A = ℕ} 0 1 = cc in absurd (omega arith)
     go o q (bad {number = i} {line = j} f) =
         let first : i ≡ number = cc in

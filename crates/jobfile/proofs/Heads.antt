@@ -9,14 +9,13 @@ use borrow.Author.Tests.{leb-true, eqb-true}
 use Rattle.laws.proofs.Tests.{both}
 use Rattle.jobfile.specs.declared.Head.{Head}
 use Rattle.jobfile.specs.Limits.{Limits, unitLimits}
-use Rattle.jobfile.specs.Forms.{within, headInRange, tileSide, tilesAcross, agrees}
+use Rattle.jobfile.specs.Forms.{inSpan, headInRange, tileSide, tilesAcross, agrees}
 use Rattle.jobfile.specs.Held.{GoodHead}
 
 pub record HeadFacts (h : Head) : Type 0 where
   pub window-least : 1 ≤ h .window
   pub window-most : h .window ≤ h .size
   pub size-most : h .size ≤ unitLimits .side
-  pub cut-least : 1 ≤ h .cut
   pub gap-most : h .gap ≤ unitLimits .side
   pub bounds-order : h .lower ≤ h .upper
   pub bounds-most : h .upper ≤ unitLimits .bound
@@ -33,7 +32,7 @@ pub record Between (lo hi n : ℕ) : Type 0 where
   pub least : lo ≤ n
   pub most : n ≤ hi
 
-pub between : (lo hi n : ℕ) → within lo hi n ≡ true → Between lo hi n
+pub between : (lo hi n : ℕ) → inSpan lo hi n ≡ true → Between lo hi n
 between lo hi n e = let k = both (leb lo n) (leb n hi) e in record { least = leb-true lo n (k .0); most = leb-true n hi (k .1) }
 
 -- a number that another divides is so many times it
@@ -76,31 +75,31 @@ ranges m h e =
     }
   where
     sides : Bool
-    sides = within 1 (m .side) (h .size) && within 1 (m .side) (h .window)
+    sides = inSpan 1 (m .side) (h .size) && inSpan 1 (m .side) (h .window)
 
     tiles : Bool
-    tiles = within 1 (m .tiles) (h .cut) && within 0 (m .side) (h .gap)
+    tiles = inSpan 1 (m .tiles) (h .cut) && inSpan 0 (m .side) (h .gap)
 
     bounds : Bool
-    bounds = within 0 (m .bound) (h .lower) && within 0 (m .bound) (h .upper)
+    bounds = inSpan 0 (m .bound) (h .lower) && inSpan 0 (m .bound) (h .upper)
 
     zoom : Bool
-    zoom = within 0 (m .accuracy) (h .accuracy) && within 1 (m .levels) (h .levels)
+    zoom = inSpan 0 (m .accuracy) (h .accuracy) && inSpan 1 (m .levels) (h .levels)
 
     k : (sides ≡ true) × (tiles ≡ true) × (bounds ≡ true) × (zoom ≡ true)
     k = four sides tiles bounds zoom e
 
-    a : (within 1 (m .side) (h .size) ≡ true) × (within 1 (m .side) (h .window) ≡ true)
-    a = both (within 1 (m .side) (h .size)) (within 1 (m .side) (h .window)) (k .0)
+    a : (inSpan 1 (m .side) (h .size) ≡ true) × (inSpan 1 (m .side) (h .window) ≡ true)
+    a = both (inSpan 1 (m .side) (h .size)) (inSpan 1 (m .side) (h .window)) (k .0)
 
-    b : (within 1 (m .tiles) (h .cut) ≡ true) × (within 0 (m .side) (h .gap) ≡ true)
-    b = both (within 1 (m .tiles) (h .cut)) (within 0 (m .side) (h .gap)) (k .1)
+    b : (inSpan 1 (m .tiles) (h .cut) ≡ true) × (inSpan 0 (m .side) (h .gap) ≡ true)
+    b = both (inSpan 1 (m .tiles) (h .cut)) (inSpan 0 (m .side) (h .gap)) (k .1)
 
-    c : (within 0 (m .bound) (h .lower) ≡ true) × (within 0 (m .bound) (h .upper) ≡ true)
-    c = both (within 0 (m .bound) (h .lower)) (within 0 (m .bound) (h .upper)) (k .2)
+    c : (inSpan 0 (m .bound) (h .lower) ≡ true) × (inSpan 0 (m .bound) (h .upper) ≡ true)
+    c = both (inSpan 0 (m .bound) (h .lower)) (inSpan 0 (m .bound) (h .upper)) (k .2)
 
-    d : (within 0 (m .accuracy) (h .accuracy) ≡ true) × (within 1 (m .levels) (h .levels) ≡ true)
-    d = both (within 0 (m .accuracy) (h .accuracy)) (within 1 (m .levels) (h .levels)) (k .3)
+    d : (inSpan 0 (m .accuracy) (h .accuracy) ≡ true) × (inSpan 1 (m .levels) (h .levels) ≡ true)
+    d = both (inSpan 0 (m .accuracy) (h .accuracy)) (inSpan 1 (m .levels) (h .levels)) (k .3)
 
 pub record Agreement (m : Limits) (h : Head) : Type 0 where
   pub fits : h .window ≤ h .size
@@ -140,7 +139,6 @@ head-facts h g =
       window-least = r .window .least;
       window-most = a .fits;
       size-most = r .size .most;
-      cut-least = r .cut .least;
       gap-most = r .gap .most;
       bounds-order = a .order;
       bounds-most = r .upper .most;

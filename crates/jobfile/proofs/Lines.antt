@@ -10,9 +10,9 @@ use lib.ListN.{length, take, drop, length-drop, take-append-drop, drop-of-length
 use lib.Seq.{drop-drop, length-take-le, take-all}
 use borrow.Author.Tests.{lt-ltb, le-ltb, le-leb, lt-leb, ltb-true, ltb-false, eq-eqb, ne-eqb}
 use Rattle.geometry.specs.Layout.{rectsOf}
-use Rattle.spelling.specs.Text.{inFront, parts}
+use Rattle.spelling.specs.Text.{inFront, pieces}
 use Rattle.spelling.specs.Scanning.{lineLength}
-use Rattle.spelling.proofs.Lines.{parts-line, parts-last}
+use Rattle.spelling.proofs.Lines.{pieces-line, pieces-last}
 use Rattle.jobfile.specs.declared.Head.{Head}
 use Rattle.jobfile.specs.declared.Form.{Form}
 use Rattle.jobfile.specs.declared.State.{State}
@@ -32,20 +32,20 @@ use Rattle.jobfile.proofs.Entering.{held-count}
 
 -- ---- one line more
 
-pub record Pieces (s : List ℕ) : Type 0 where
+pub record FirstPiece (s : List ℕ) : Type 0 where
   pub first : List ℕ
   pub others : List (List ℕ)
-  pub all : parts s ≡ first ∷ others
+  pub all : pieces s ≡ first ∷ others
 
 -- a text has a first piece
-pub pieces : (s : List ℕ) → Pieces s
-unfolding parts
-pieces [] = record { first = []; others = []; all = refl }
-pieces (b ∷ s) = go (eqb b 10) refl (pieces s)
+pub first-piece : (s : List ℕ) → FirstPiece s
+unfolding pieces
+first-piece [] = record { first = []; others = []; all = refl }
+first-piece (b ∷ s) = go (eqb b 10) refl (first-piece s)
   where
-    go : (x : Bool) → eqb b 10 ≡ x → Pieces s → Pieces (b ∷ s)
-    go true e p = record { first = []; others = parts s; all = rw (e, parts) }
-    go false e p = record { first = b ∷ p .first; others = p .others; all = rw (e, parts) (ap (inFront b) (p .all)) }
+    go : (x : Bool) → eqb b 10 ≡ x → FirstPiece s → FirstPiece (b ∷ s)
+    go true e p = record { first = []; others = pieces s; all = rw (e, pieces) }
+    go false e p = record { first = b ∷ p .first; others = p .others; all = rw (e, pieces) (ap (inFront b) (p .all)) }
 
 -- what reading comes to after a line that has a line feed, the pieces after it given
 abbrev afterLine : Limits → Standing → ℕ → List ℕ → List (List ℕ) → Outcome
@@ -55,16 +55,16 @@ afterLine m st k line ps =
       | false ↦ refused (lineFault m st (formOf m line)) k
     ]
 
-read-next : (m : Limits) (st : Standing) (k : ℕ) (line s : List ℕ) → readLines m st k (line ∷ parts s) ≡ afterLine m st k line (parts s)
+read-next : (m : Limits) (st : Standing) (k : ℕ) (line s : List ℕ) → readLines m st k (line ∷ pieces s) ≡ afterLine m st k line (pieces s)
 unfolding readLines
-read-next m st k line s = subst (λ (ps : List (List ℕ)). readLines m st k (line ∷ ps) ≡ afterLine m st k line ps) (sym (pieces s .all)) refl
+read-next m st k line s = subst (λ (ps : List (List ℕ)). readLines m st k (line ∷ ps) ≡ afterLine m st k line ps) (sym (first-piece s .all)) refl
 
 pub good-next : (m : Limits) (st : Standing) (k : ℕ) (line s : List ℕ) → lineFault m st (formOf m line) ≡ 0 →
-    readLines m st k (line ∷ parts s) ≡ readLines m (standsAfter st (formOf m line)) (suc k) (parts s)
+    readLines m st k (line ∷ pieces s) ≡ readLines m (standsAfter st (formOf m line)) (suc k) (pieces s)
 good-next m st k line s e = read-next m st k line s ∙ rw (eq-eqb (lineFault m st (formOf m line)) 0 e, afterLine)
 
 pub bad-next : (m : Limits) (st : Standing) (k : ℕ) (line s : List ℕ) → (lineFault m st (formOf m line) ≡ 0 → ⊥) →
-    readLines m st k (line ∷ parts s) ≡ refused (lineFault m st (formOf m line)) k
+    readLines m st k (line ∷ pieces s) ≡ refused (lineFault m st (formOf m line)) k
 bad-next m st k line s n = read-next m st k line s ∙ rw (ne-eqb (lineFault m st (formOf m line)) 0 n, afterLine)
 
 pub read-last : (m : Limits) (st : Standing) (k : ℕ) (s : List ℕ) → readLines m st k (s ∷ []) ≡ afterLast st k s
@@ -87,27 +87,27 @@ module _ (m : Limits) (st : Standing) (k : ℕ) (rest : List ℕ) where
       go false q = absurd (omega (arith, e, unfed-fault (ltb-false (lineLength rest) (length rest) q)))
 
   pub line-good : firstFault m st rest ≡ 0 →
-      readLines m st k (parts rest) ≡ readLines m (standsAfter st (formOf m (firstLine rest))) (suc k) (parts (drop (suc (lineLength rest)) rest))
+      readLines m st k (pieces rest) ≡ readLines m (standsAfter st (formOf m (firstLine rest))) (suc k) (pieces (drop (suc (lineLength rest)) rest))
   line-good e =
-      ap (readLines m st k) (parts-line rest (good-fed e))
+      ap (readLines m st k) (pieces-line rest (good-fed e))
       ∙ good-next m st k (firstLine rest) (drop (suc (lineLength rest)) rest) (sym (fed-fault (good-fed e)) ∙ e)
 
-  pub line-bad : 0 < length rest → (firstFault m st rest ≡ 0 → ⊥) → readLines m st k (parts rest) ≡ refused (firstFault m st rest) k
+  pub line-bad : 0 < length rest → (firstFault m st rest ≡ 0 → ⊥) → readLines m st k (pieces rest) ≡ refused (firstFault m st rest) k
   line-bad h n = go (ltb (lineLength rest) (length rest)) refl
     where
       last : (s : List ℕ) → 0 < length s → afterLast st k s ≡ refused 2 k
       last [] h = absurd (omega arith)
       last (b ∷ s) h = refl
 
-      go : (x : Bool) → ltb (lineLength rest) (length rest) ≡ x → readLines m st k (parts rest) ≡ refused (firstFault m st rest) k
+      go : (x : Bool) → ltb (lineLength rest) (length rest) ≡ x → readLines m st k (pieces rest) ≡ refused (firstFault m st rest) k
       go true q =
           let f = fed-fault (ltb-true (lineLength rest) (length rest) q) in
-          ap (readLines m st k) (parts-line rest (ltb-true (lineLength rest) (length rest) q))
+          ap (readLines m st k) (pieces-line rest (ltb-true (lineLength rest) (length rest) q))
           ∙ bad-next m st k (firstLine rest) (drop (suc (lineLength rest)) rest) (λ z. n (f ∙ z))
           ∙ ap (λ (n : ℕ). refused n k) (sym f)
       go false q =
           let f = unfed-fault (ltb-false (lineLength rest) (length rest) q) in
-          ap (readLines m st k) (parts-last rest (ltb-false (lineLength rest) (length rest) q)) ∙ read-last m st k rest ∙ last rest h ∙ ap (λ (n : ℕ). refused n k) (sym f)
+          ap (readLines m st k) (pieces-last rest (ltb-false (lineLength rest) (length rest) q)) ∙ read-last m st k rest ∙ last rest h ∙ ap (λ (n : ℕ). refused n k) (sym f)
 
 -- ---- one line, as the code reads it
 
@@ -147,7 +147,7 @@ pub record ReadSoFar (file : List ℕ) (s : State) (rects amounts : List ℕ) (l
   pub held : Held s rects amounts
   pub within : at ≤ length file
   pub lines : line ≤ at + 1
-  pub whole : readLines unitLimits beforeHead 1 (parts file) ≡ readLines unitLimits (standing s rects amounts) line (parts (drop at file))
+  pub whole : readLines unitLimits beforeHead 1 (pieces file) ≡ readLines unitLimits (standing s rects amounts) line (pieces (drop at file))
 
 pub read-so-far-start : (file rects amounts : List ℕ) (h : Head) → rects ≡ zeros shapesRoom → amounts ≡ zeros amountsRoom → h ≡ noHead →
     ReadSoFar file (record { turn = Before; head = h; count = 0 }) rects amounts 1 0
@@ -157,7 +157,7 @@ read-so-far-start file rects amounts h er ea eh =
     (record {
       held = record {
         room = refl;
-        cells = refl;
+        amounts-room = refl;
         count = lit≤ tt;
         tiles = lit≤ tt;
         behind = refl;
@@ -179,9 +179,9 @@ read-so-far-next file s rects amounts line at rest r rects′ amounts′ k e rea
       within = omega (arith, feed, read .used, ap length e, length-drop at file, k .within);
       lines = omega (arith, k .lines, read .used);
       whole =
-          k .whole ∙ ap (λ (t : List ℕ). readLines unitLimits st line (parts t)) (sym e) ∙ line-good unitLimits st line rest fault
-          ∙ ap₂ (λ (x : Standing) (t : List ℕ). readLines unitLimits x (suc line) (parts t)) (sym (read .good z .stands)) left
-          ∙ ap (λ (n : ℕ). readLines unitLimits (standing (r .state) rects′ amounts′) n (parts (drop (at + r .used) file))) (sym (add-one line));
+          k .whole ∙ ap (λ (t : List ℕ). readLines unitLimits st line (pieces t)) (sym e) ∙ line-good unitLimits st line rest fault
+          ∙ ap₂ (λ (x : Standing) (t : List ℕ). readLines unitLimits x (suc line) (pieces t)) (sym (read .good z .stands)) left
+          ∙ ap (λ (n : ℕ). readLines unitLimits (standing (r .state) rects′ amounts′) n (pieces (drop (at + r .used) file))) (sym (add-one line));
     }
   where
     st : Standing
@@ -201,13 +201,13 @@ read-so-far-next file s rects amounts line at rest r rects′ amounts′ k e rea
 -- a faulty line ends the reading
 pub read-so-far-bad : (file : List ℕ) (s : State) (rects amounts : List ℕ) (line at : ℕ) (rest : List ℕ) (r : Step) (rects′ amounts′ : List ℕ) →
     ReadSoFar file s rects amounts line at → at < length file → rest ≡ drop at file → LineRead rest s rects amounts r rects′ amounts′ →
-    (r .fault ≡ 0 → ⊥) → jobOf (record { fault = r .fault; line = line; state = s }) rects′ amounts′ ≡ asJob (readLines unitLimits beforeHead 1 (parts file))
+    (r .fault ≡ 0 → ⊥) → jobOf (record { fault = r .fault; line = line; state = s }) rects′ amounts′ ≡ asJob (readLines unitLimits beforeHead 1 (pieces file))
 unfolding jobOf
 read-so-far-bad file s rects amounts line at rest r rects′ amounts′ k h e read n =
     rw (ne-eqb (r .fault) 0 n, jobOf)
     (ap asJob
     (sym
-    (k .whole ∙ ap (λ (t : List ℕ). readLines unitLimits (standing s rects amounts) line (parts t)) (sym e)
+    (k .whole ∙ ap (λ (t : List ℕ). readLines unitLimits (standing s rects amounts) line (pieces t)) (sym e)
     ∙ line-bad unitLimits (standing s rects amounts) line rest (omega (arith, ap length e, length-drop at file)) (λ z. n (read .fault ∙ z))
     ∙ ap (λ (m : ℕ). refused m line) (sym (read .fault)))))
 
@@ -225,7 +225,7 @@ held-rects s rects amounts k =
     (k .room) (omega (arith, k .count)) (k .behind)
 
 held-amounts : (s : State) (rects amounts : List ℕ) → Held s rects amounts → amounts ≡ padded amountsRoom (take (tileCount (s .head)) amounts)
-held-amounts s rects amounts k = filled amountsRoom (tileCount (s .head)) amounts (take (tileCount (s .head)) amounts) refl (k .cells) (k .tiles) (k .beyond)
+held-amounts s rects amounts k = filled amountsRoom (tileCount (s .head)) amounts (take (tileCount (s .head)) amounts) refl (k .amounts-room) (k .tiles) (k .beyond)
 
 -- the job where (end) was read, and where it was not
 ended : (s : State) (line : ℕ) (rects amounts : List ℕ) → Held s rects amounts → (t : Turn) →
@@ -243,12 +243,12 @@ ended s line rects amounts k Done =
 
 -- the end of the file
 pub read-so-far-end : (file : List ℕ) (s : State) (rects amounts : List ℕ) (line at n : ℕ) → ReadSoFar file s rects amounts line at → length file ≤ at →
-    n ≡ endFault (s .turn) → jobOf (record { fault = n; line = line; state = s }) rects amounts ≡ asJob (readLines unitLimits beforeHead 1 (parts file))
-unfolding parts readLines
+    n ≡ endFault (s .turn) → jobOf (record { fault = n; line = line; state = s }) rects amounts ≡ asJob (readLines unitLimits beforeHead 1 (pieces file))
+unfolding pieces readLines
 read-so-far-end file s rects amounts line at n k h e =
     ap (λ (m : ℕ). jobOf (record { fault = m; line = line; state = s }) rects amounts) e
     ∙ ended s line rects amounts (k .held) (s .turn)
-    ∙ ap asJob (sym (k .whole ∙ ap (λ (t : List ℕ). readLines unitLimits (standing s rects amounts) line (parts t)) (drop-of-length-le file h)))
+    ∙ ap asJob (sym (k .whole ∙ ap (λ (t : List ℕ). readLines unitLimits (standing s rects amounts) line (pieces t)) (drop-of-length-le file h)))
 
 -- the part of a list from a place to its end
 pub from-place : (l : List ℕ) (n : ℕ) → take (length l - n) (drop n l) ≡ drop n l
@@ -260,12 +260,12 @@ pub too-long : (m : Limits) (file : List ℕ) → m .bytes < length file → ref
 unfolding outcomeOf
 too-long m file h = rw (lt-leb (length file) (m .bytes) h, outcomeOf)
 
-pub short-enough : (m : Limits) (file : List ℕ) → length file ≤ m .bytes → readLines m beforeHead 1 (parts file) ≡ outcomeOf m file
+pub short-enough : (m : Limits) (file : List ℕ) → length file ≤ m .bytes → readLines m beforeHead 1 (pieces file) ≡ outcomeOf m file
 unfolding outcomeOf
 short-enough m file h = rw (le-leb (length file) (m .bytes) h, outcomeOf)
 
 module _ (file : List ℕ) (h : length file ≤ unitLimits .bytes) (e : Ending) (rects amounts : List ℕ)
-    (same : jobOf e rects amounts ≡ asJob (readLines unitLimits beforeHead 1 (parts file))) where
+    (same : jobOf e rects amounts ≡ asJob (readLines unitLimits beforeHead 1 (pieces file))) where
   pub whole-bad : (j : Job) → (e .fault ≡ 0 → ⊥) → j ≡ asJob (refused (e .fault) (e .line)) → j ≡ asJob (outcomeOf unitLimits file)
   unfolding jobOf
   whole-bad j n q = q ∙ rw (ne-eqb (e .fault) 0 n, jobOf) at same ∙ ap asJob (short-enough unitLimits file h)

@@ -61,7 +61,7 @@ module _ (m : Limits) where
   SpelledAs line f = known f ≡ true → Spells m line f
 
   as-form : (p line : List ℕ) (f : Form) → known f ≡ true → spellingOf f ≡ spell p (numbersOf f) → SpelledBy (m .digits) p line (numbersOf f) → Spells m line f
-  as-form p line f e same k = record { form = e; spelling = k .spelling ∙ sym same; short = k .short }
+  as-form p line f e same k = record { is-known = e; spelling = k .spelling ∙ sym same; short = k .short }
 
   pub form-spelled : (line : List ℕ) → known (formOf m line) ≡ true → Spells m line (formOf m line)
   unfolding formOf spellingOf places bytes headPattern rectPattern fillPattern endPattern
@@ -127,7 +127,7 @@ module _ (m : Limits) where
       )
 
   pub spells-read : (line : List ℕ) (f : Form) → Spells m line f → formOf m line ≡ f
-  spells-read line f s = ap (formOf m) (s .spelling) ∙ spelling-read f (s .form) (s .short)
+  spells-read line f s = ap (formOf m) (s .spelling) ∙ spelling-read f (s .is-known) (s .short)
 
 -- ---- no line feed
 

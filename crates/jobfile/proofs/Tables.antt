@@ -15,7 +15,7 @@ use Rattle.geometry.specs.Layout.{rectsOf, Disjoint, Drawn}
 use Rattle.geometry.proofs.Tables.{rects-more}
 use Rattle.jobfile.specs.declared.Head.{Head}
 use Rattle.jobfile.specs.Limits.{Limits, unitLimits}
-use Rattle.jobfile.specs.Forms.{within, rectInRange}
+use Rattle.jobfile.specs.Forms.{inSpan, rectInRange}
 use Rattle.jobfile.specs.Held.{shapesRoom, GoodShapes, withShape, tableOf}
 use Rattle.jobfile.proofs.Heads.{Between, between}
 
@@ -113,14 +113,14 @@ corners m r e =
       high = between 0 (m .side) (r .y2) (b .1);
     }
   where
-    ends : ((within 0 (m .side) (r .x1) && within 0 (m .side) (r .y1)) ≡ true) × ((within 0 (m .side) (r .x2) && within 0 (m .side) (r .y2)) ≡ true)
-    ends = both (within 0 (m .side) (r .x1) && within 0 (m .side) (r .y1)) (within 0 (m .side) (r .x2) && within 0 (m .side) (r .y2)) e
+    ends : ((inSpan 0 (m .side) (r .x1) && inSpan 0 (m .side) (r .y1)) ≡ true) × ((inSpan 0 (m .side) (r .x2) && inSpan 0 (m .side) (r .y2)) ≡ true)
+    ends = both (inSpan 0 (m .side) (r .x1) && inSpan 0 (m .side) (r .y1)) (inSpan 0 (m .side) (r .x2) && inSpan 0 (m .side) (r .y2)) e
 
-    a : (within 0 (m .side) (r .x1) ≡ true) × (within 0 (m .side) (r .y1) ≡ true)
-    a = both (within 0 (m .side) (r .x1)) (within 0 (m .side) (r .y1)) (ends .0)
+    a : (inSpan 0 (m .side) (r .x1) ≡ true) × (inSpan 0 (m .side) (r .y1) ≡ true)
+    a = both (inSpan 0 (m .side) (r .x1)) (inSpan 0 (m .side) (r .y1)) (ends .0)
 
-    b : (within 0 (m .side) (r .x2) ≡ true) × (within 0 (m .side) (r .y2) ≡ true)
-    b = both (within 0 (m .side) (r .x2)) (within 0 (m .side) (r .y2)) (ends .1)
+    b : (inSpan 0 (m .side) (r .x2) ≡ true) × (inSpan 0 (m .side) (r .y2) ≡ true)
+    b = both (inSpan 0 (m .side) (r .x2)) (inSpan 0 (m .side) (r .y2)) (ends .1)
 
 -- no number of a table of good rectangles is past the greatest side
 pub table-small : (h : Head) (rs : List Rect) → GoodShapes h rs → (i : ℕ) → getD (tableOf rs) i 0 ≤ unitLimits .side

@@ -14,7 +14,7 @@ use Rattle.jobfile.specs.declared.Head.{Head}
 use Rattle.jobfile.specs.declared.Form.{Form}
 use Rattle.jobfile.specs.declared.Form.the-variants.{Unknown, Heading, Shape, Fill, End}
 use Rattle.jobfile.specs.Limits.{Limits, Widened}
-use Rattle.jobfile.specs.Forms.{within, headInRange, rectInRange, fillInRange, inRange, tileSide, tilesAcross, agrees}
+use Rattle.jobfile.specs.Forms.{inSpan, headInRange, rectInRange, fillInRange, inRange, tileSide, tilesAcross, agrees}
 use Rattle.jobfile.specs.Faults.{Standing, lineFault, ownFault}
 use Rattle.jobfile.specs.Acceptance.{numbersOf, Good, none, next, AcceptedFile, Widening}
 use Rattle.jobfile.proofs.Faultless.{check-passes, no-fault, faultless, no-shape-fault, shape-faultless}
@@ -27,7 +27,7 @@ each-short h [] e = tt
 each-short h (n ∷ ns) e = (le-trans (e .0) h, each-short h ns (e .1))
 
 -- a number in a range is in every wider one
-wider : (lo hi n : ℕ) {most : ℕ} → most ≤ hi → Between lo most n → within lo hi n ≡ true
+wider : (lo hi n : ℕ) {most : ℕ} → most ≤ hi → Between lo most n → inSpan lo hi n ≡ true
 wider lo hi n h b = rw (le-leb lo n (b .least), le-leb n hi (le-trans (b .most) h))
 
 module _ (old new : Limits) (w : Widened old new) where
@@ -57,8 +57,8 @@ module _ (old new : Limits) (w : Widened old new) where
 
   fill-range : (i j p : ℕ) → fillInRange old i j p ≡ true → fillInRange new i j p ≡ true
   fill-range i j p e =
-      let a = both (within 0 (old .tiles - 1) i && within 0 (old .tiles - 1) j) (within 1 (old .amount) p) e in
-      let b = both (within 0 (old .tiles - 1) i) (within 0 (old .tiles - 1) j) (a .0) in
+      let a = both (inSpan 0 (old .tiles - 1) i && inSpan 0 (old .tiles - 1) j) (inSpan 1 (old .amount) p) e in
+      let b = both (inSpan 0 (old .tiles - 1) i) (inSpan 0 (old .tiles - 1) j) (a .0) in
       let tiles : old .tiles - 1 ≤ new .tiles - 1 = omega (arith, w .tiles) in
       rw (
         wider 0 (new .tiles - 1) i tiles (between 0 (old .tiles - 1) i (b .0)),
@@ -100,7 +100,7 @@ module _ (old new : Limits) (w : Widened old new) where
 
   still-accepted : (file : List ℕ) (st : Standing) → AcceptedFile old file st → AcceptedFile new file st
   still-accepted file st a =
-      record { forms = a .forms; size = le-trans (a .size) (w .bytes); text = a .text; good = still-good (a .good); ended = a .ended }
+      record { forms = a .forms; fits = le-trans (a .fits) (w .bytes); text = a .text; good = still-good (a .good); ended = a .ended }
 
 pub widening : Widening
 widening old new w file st e =

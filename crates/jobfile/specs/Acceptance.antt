@@ -35,10 +35,10 @@ spellingOf (Fill i j p) = spell fillPattern (numbersOf (Fill i j p))
 spellingOf End = spell endPattern []
 
 -- a line spells a form: it is the form's spelling, and no number has too many digits
-pub record Spells (m : Limits) (line : List ℕ) (f : Form) : Type 0 where
-  pub form : known f ≡ true
+pub record Spells (limits : Limits) (line : List ℕ) (f : Form) : Type 0 where
+  pub is-known : known f ≡ true
   pub spelling : line ≡ spellingOf f
-  pub short : EachShort (m .digits) (numbersOf f)
+  pub short : EachShort (limits .digits) (numbersOf f)
 
 -- the text of forms: each one's spelling with its line feed
 unfoldable pub formsText : List Form → List ℕ
@@ -53,50 +53,50 @@ feedless (b ∷ s) = not (eqb b 10) && feedless s
 -- ---- good forms, and faults
 
 -- every form is good where it stands: from the first standing they lead to the second
-pub data Good (m : Limits) : Standing → List Form → Standing → Type 0 where
-  none : {st : Standing} → Good m st [] st
-  next : {st st′ : Standing} {f : Form} {fs : List Form} → EachShort (m .digits) (numbersOf f) → lineFault m st f ≡ 0 →
-      Good m (standsAfter st f) fs st′ → Good m st (f ∷ fs) st′
+pub data Good (limits : Limits) : Standing → List Form → Standing → Type 0 where
+  none : {st : Standing} → Good limits st [] st
+  next : {st st′ : Standing} {f : Form} {fs : List Form} → EachShort (limits .digits) (numbersOf f) → lineFault limits st f ≡ 0 →
+      Good limits (standsAfter st f) fs st′ → Good limits st (f ∷ fs) st′
 
 -- the fault of a line that has its line feed, 0 for none: that of the form that it spells, or 2 where it spells none
-pub data LineFault (m : Limits) (st : Standing) (line : List ℕ) : ℕ → Type 0 where
-  spelled : {f : Form} → Spells m line f → LineFault m st line (lineFault m st f)
-  unspelled : ((f : Form) → Spells m line f → ⊥) → LineFault m st line 2
+pub data LineFault (limits : Limits) (st : Standing) (line : List ℕ) : ℕ → Type 0 where
+  spelled : {f : Form} → Spells limits line f → LineFault limits st line (lineFault limits st f)
+  unspelled : ((f : Form) → Spells limits line f → ⊥) → LineFault limits st line 2
 
--- the first fault of a text by number and line, where st stands before it and its first line is line k
-pub data FirstFault (m : Limits) (st : Standing) (k : ℕ) (s : List ℕ) : (number line : ℕ) → Type 0 where
+-- the first fault of a text by number and line, where st stands before it and its first line is line k: of a file, nothing and 1
+pub data FirstFault (limits : Limits) (st : Standing) (k : ℕ) (s : List ℕ) : (number line : ℕ) → Type 0 where
   -- good forms and then a line with a fault
   faulty : (fs : List Form) {st′ : Standing} {number : ℕ} (line after : List ℕ) → s ≡ formsText fs ++ (line ++ (10 ∷ after)) → feedless line ≡ true →
-      Good m st fs st′ → LineFault m st′ line number → (number ≡ 0 → ⊥) → FirstFault m st k s number (length fs + k)
+      Good limits st fs st′ → LineFault limits st′ line number → (number ≡ 0 → ⊥) → FirstFault limits st k s number (length fs + k)
   -- good forms and then a line without a line feed
   unfed : (fs : List Form) {st′ : Standing} (line : List ℕ) → s ≡ formsText fs ++ line → feedless line ≡ true → 0 < length line →
-      Good m st fs st′ → FirstFault m st k s 2 (length fs + k)
+      Good limits st fs st′ → FirstFault limits st k s 2 (length fs + k)
   -- good forms and no (end)
-  unended : (fs : List Form) {st′ : Standing} → s ≡ formsText fs → Good m st fs st′ → (st′ .turn ≡ Done → ⊥) → FirstFault m st k s 12 (length fs + k)
+  unended : (fs : List Form) {st′ : Standing} → s ≡ formsText fs → Good limits st fs st′ → (st′ .turn ≡ Done → ⊥) → FirstFault limits st k s 12 (length fs + k)
 
 -- ---- the whole file
 
 -- a file is accepted with what stands at its end: it is the spellings of good forms, up to (end)
-pub record AcceptedFile (m : Limits) (file : List ℕ) (st : Standing) : Type 0 where
+pub record AcceptedFile (limits : Limits) (file : List ℕ) (st : Standing) : Type 0 where
   pub forms : List Form
-  pub size : length file ≤ m .bytes
+  pub fits : length file ≤ limits .bytes
   pub text : file ≡ formsText forms
-  pub good : Good m beforeHead forms st
+  pub good : Good limits beforeHead forms st
   pub ended : st .turn ≡ Done
 
 -- a file is refused: it is too long, or its lines have a first fault
-pub data RefusedFile (m : Limits) (file : List ℕ) : (number line : ℕ) → Type 0 where
-  long : m .bytes < length file → RefusedFile m file 1 0
-  lines : {number line : ℕ} → length file ≤ m .bytes → FirstFault m beforeHead 1 file number line → RefusedFile m file number line
+pub data RefusedFile (limits : Limits) (file : List ℕ) : (number line : ℕ) → Type 0 where
+  long : limits .bytes < length file → RefusedFile limits file 1 0
+  lines : {number line : ℕ} → length file ≤ limits .bytes → FirstFault limits beforeHead 1 file number line → RefusedFile limits file number line
 
 -- ---- what is promised of every file; proofs/Files.antt and proofs/Widening.antt prove it for all limits
 
 -- a file is accepted, or refused with a number and a line, exactly if it is so as said above
-pub record Acceptance (m : Limits) (file : List ℕ) : Type 0 where
-  pub accepted-if : (st : Standing) → AcceptedFile m file st → outcomeOf m file ≡ accepted st
-  pub accepted-only-if : (st : Standing) → outcomeOf m file ≡ accepted st → AcceptedFile m file st
-  pub refused-if : (number line : ℕ) → RefusedFile m file number line → outcomeOf m file ≡ refused number line
-  pub refused-only-if : (number line : ℕ) → outcomeOf m file ≡ refused number line → RefusedFile m file number line
+pub record Acceptance (limits : Limits) (file : List ℕ) : Type 0 where
+  pub accepted-if : (st : Standing) → AcceptedFile limits file st → outcomeOf limits file ≡ accepted st
+  pub accepted-only-if : (st : Standing) → outcomeOf limits file ≡ accepted st → AcceptedFile limits file st
+  pub refused-if : (number line : ℕ) → RefusedFile limits file number line → outcomeOf limits file ≡ refused number line
+  pub refused-only-if : (number line : ℕ) → outcomeOf limits file ≡ refused number line → RefusedFile limits file number line
 
 -- where limits are widened, every file that was accepted still is, with the same standing
 abbrev pub Widening : Type 0

@@ -59,11 +59,11 @@ fitsLayout h r = (ltb (r .x1) (r .x2) && ltb (r .y1) (r .y2)) && (leb (r .x2) (h
 
 -- the faults of a rectangle
 unfoldable pub shapeFault : Limits → Standing → Rect → ℕ
-shapeFault m st r =
+shapeFault limits st r =
     -- 6: X1 ≥ X2 or Y1 ≥ Y2, or X2 or Y2 exceeds N
     check (fitsLayout (st .head) r) 6
     -- 8: as many rectangles as are allowed stand already
-    (check (ltb (length (st .shapes)) (m .shapes)) 8
+    (check (ltb (length (st .shapes)) (limits .shapes)) 8
     -- 9: it shares a unit square with one that stands
     (check (not (sharesSquare (st .shapes) r)) 9
     0))
@@ -81,15 +81,15 @@ fillFault st i j p =
 
 -- the faults that a form of its own kind may have; 5: the head disagrees. An unknown form does not come here: `lineFault`
 abbrev pub ownFault : Limits → Standing → Form → ℕ
-ownFault m st Unknown = 2
-ownFault m st (Heading h) = check (agrees m h) 5 0
-ownFault m st (Shape r) = shapeFault m st r
-ownFault m st (Fill i j p) = fillFault st i j p
-ownFault m st End = 0
+ownFault limits st Unknown = 2
+ownFault limits st (Heading h) = check (agrees limits h) 5 0
+ownFault limits st (Shape r) = shapeFault limits st r
+ownFault limits st (Fill i j p) = fillFault st i j p
+ownFault limits st End = 0
 
 -- the lowest number of a fault that a line has, 0 for none: 2 none of the spellings, 3 out of range, 4 out of turn, then the others
 unfoldable pub lineFault : Limits → Standing → Form → ℕ
-lineFault m st f = check (known f) 2 (check (inRange m f) 3 (check (inTurn (st .turn) f) 4 (ownFault m st f)))
+lineFault limits st f = check (known f) 2 (check (inRange limits f) 3 (check (inTurn (st .turn) f) 4 (ownFault limits st f)))
 
 -- what stands after a good line, which is never an unknown form
 unfoldable pub standsAfter : Standing → Form → Standing

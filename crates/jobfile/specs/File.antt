@@ -4,7 +4,7 @@ use mathlib.Core.Bool.{true, false}
 use mathlib.Core.List.{List, [], _∷_}
 use lib.Dec.{leb, eqb}
 use lib.ListN.{length}
-use Rattle.spelling.specs.Text.{parts}
+use Rattle.spelling.specs.Text.{pieces}
 use Rattle.jobfile.specs.declared.Turn.{Turn}
 use Rattle.jobfile.specs.declared.Turn.the-variants.{Before, Shapes, Fills, Done}
 use Rattle.jobfile.specs.Limits.{Limits}
@@ -29,13 +29,13 @@ afterLast st k (b ∷ s) = refused 2 k
 
 -- the lines from line k on, as the pieces of the file between its line feeds; there is always one, so the empty list does not come here
 unfoldable pub readLines : Limits → Standing → (k : ℕ) → List (List ℕ) → Outcome
-readLines m st k [] = atEnd (st .turn) k st
-readLines m st k (line ∷ []) = afterLast st k line
-readLines m st k (line ∷ next ∷ more) =
-    let fault = lineFault m st (formOf m line) in
-    let rest = readLines m (standsAfter st (formOf m line)) (suc k) (next ∷ more) in
+readLines limits st k [] = atEnd (st .turn) k st
+readLines limits st k (line ∷ []) = afterLast st k line
+readLines limits st k (line ∷ next ∷ more) =
+    let fault = lineFault limits st (formOf limits line) in
+    let rest = readLines limits (standsAfter st (formOf limits line)) (suc k) (next ∷ more) in
     elim (eqb fault 0) [ true ↦ rest | false ↦ refused fault k ]
 
 -- the whole file. `Acceptance` in specs/Acceptance.antt says the same without reading line by line
 unfoldable pub outcomeOf : Limits → List ℕ → Outcome
-outcomeOf m file = elim (leb (length file) (m .bytes)) [ true ↦ readLines m beforeHead 1 (parts file) | false ↦ refused 1 0 ]
+outcomeOf limits file = elim (leb (length file) (limits .bytes)) [ true ↦ readLines limits beforeHead 1 (pieces file) | false ↦ refused 1 0 ]

@@ -26,6 +26,47 @@ fillPattern = bytes "(fill # # #)"
 unfoldable pub endPattern : List ℕ
 endPattern = bytes "(end)"
 
+abbrev pub inSpan : (lo hi n : ℕ) → Bool
+inSpan lo hi n = leb lo n && leb n hi
+
+-- the table of ranges
+abbrev pub headInRange : Limits → Head → Bool
+headInRange limits h =
+    (inSpan 1 (limits .side) (h .size) && inSpan 1 (limits .side) (h .window))
+    && (inSpan 1 (limits .tiles) (h .cut) && inSpan 0 (limits .side) (h .gap))
+    && (inSpan 0 (limits .bound) (h .lower) && inSpan 0 (limits .bound) (h .upper))
+    && (inSpan 0 (limits .accuracy) (h .accuracy) && inSpan 1 (limits .levels) (h .levels))
+
+abbrev pub rectInRange : Limits → Rect → Bool
+rectInRange limits r =
+    (inSpan 0 (limits .side) (r .x1) && inSpan 0 (limits .side) (r .y1)) && (inSpan 0 (limits .side) (r .x2) && inSpan 0 (limits .side) (r .y2))
+
+abbrev pub fillInRange : Limits → (column row amount : ℕ) → Bool
+fillInRange limits i j p = inSpan 0 (limits .tiles - 1) i && inSpan 0 (limits .tiles - 1) j && inSpan 1 (limits .amount) p
+
+abbrev pub inRange : Limits → Form → Bool
+inRange limits Unknown = true
+inRange limits (Heading h) = headInRange limits h
+inRange limits (Shape r) = rectInRange limits r
+inRange limits (Fill i j p) = fillInRange limits i j p
+inRange limits End = true
+
+-- the tile side W/R, and N/(W/R), the number of tiles across the layout
+abbrev pub tileSide : Head → ℕ
+tileSide h = h .window / h .cut
+
+abbrev pub tilesAcross : Head → ℕ
+tilesAcross h = h .size / tileSide h
+
+-- the head agrees: W ≤ N, R divides W, W/R divides N, N/(W/R) is at most the tiles across a layout, and L ≤ U
+abbrev pub agrees : Limits → Head → Bool
+agrees limits h =
+    leb (h .window) (h .size)
+    && (eqb (h .window % h .cut) 0 && eqb (h .size % tileSide h) 0)
+    && (leb (tilesAcross h) (limits .tiles) && leb (h .lower) (h .upper))
+
+-- ---- reading a line; a buyer need not read on, since `Acceptance` speaks of spellings alone
+
 -- the form of a spelling's numbers
 abbrev pub headingForm : List ℕ → Form
 headingForm ns =
@@ -55,51 +96,11 @@ abbrev pub formIf : Option (List ℕ) → (List ℕ → Form) → Form → Form
 formIf none form other = other
 formIf (some ns) form other = form ns
 
--- the form that a line spells, without its line feed. `Spells` in specs/Acceptance.antt says the same without reading: the line is the form's
--- spelling
+-- the form that a line spells, without its line feed
 unfoldable pub formOf : Limits → List ℕ → Form
-formOf m line =
-    formIf (readAs (m .digits) headPattern line) headingForm
-    (formIf (readAs (m .digits) rectPattern line) shapeForm
-    (formIf (readAs (m .digits) fillPattern line) fillForm
-    (formIf (readAs (m .digits) endPattern line) endForm
+formOf limits line =
+    formIf (readAs (limits .digits) headPattern line) headingForm
+    (formIf (readAs (limits .digits) rectPattern line) shapeForm
+    (formIf (readAs (limits .digits) fillPattern line) fillForm
+    (formIf (readAs (limits .digits) endPattern line) endForm
     Unknown)))
-
-abbrev pub within : (lo hi n : ℕ) → Bool
-within lo hi n = leb lo n && leb n hi
-
--- the table of ranges
-abbrev pub headInRange : Limits → Head → Bool
-headInRange m h =
-    (within 1 (m .side) (h .size) && within 1 (m .side) (h .window))
-    && (within 1 (m .tiles) (h .cut) && within 0 (m .side) (h .gap))
-    && (within 0 (m .bound) (h .lower) && within 0 (m .bound) (h .upper))
-    && (within 0 (m .accuracy) (h .accuracy) && within 1 (m .levels) (h .levels))
-
-abbrev pub rectInRange : Limits → Rect → Bool
-rectInRange m r =
-    (within 0 (m .side) (r .x1) && within 0 (m .side) (r .y1)) && (within 0 (m .side) (r .x2) && within 0 (m .side) (r .y2))
-
-abbrev pub fillInRange : Limits → (column row amount : ℕ) → Bool
-fillInRange m i j p = within 0 (m .tiles - 1) i && within 0 (m .tiles - 1) j && within 1 (m .amount) p
-
-abbrev pub inRange : Limits → Form → Bool
-inRange m Unknown = true
-inRange m (Heading h) = headInRange m h
-inRange m (Shape r) = rectInRange m r
-inRange m (Fill i j p) = fillInRange m i j p
-inRange m End = true
-
--- the tile side W/R, and N/(W/R), the number of tiles across the layout
-abbrev pub tileSide : Head → ℕ
-tileSide h = h .window / h .cut
-
-abbrev pub tilesAcross : Head → ℕ
-tilesAcross h = h .size / tileSide h
-
--- the head agrees: W ≤ N, R divides W, W/R divides N, N/(W/R) is at most the tiles across a layout, and L ≤ U
-abbrev pub agrees : Limits → Head → Bool
-agrees m h =
-    leb (h .window) (h .size)
-    && (eqb (h .window % h .cut) 0 && eqb (h .size % tileSide h) 0)
-    && (leb (tilesAcross h) (m .tiles) && leb (h .lower) (h .upper))

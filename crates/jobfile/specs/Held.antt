@@ -65,7 +65,7 @@ pub record Sound (st : Standing) : Type 0 where
 -- a state and its tables hold what stands: 0 behind the rectangles and behind the amounts
 pub record Held (s : State) (rects amounts : List ℕ) : Type 0 where
   pub room : length rects ≡ shapesRoom
-  pub cells : length amounts ≡ amountsRoom
+  pub amounts-room : length amounts ≡ amountsRoom
   pub count : s .count ≤ unitLimits .shapes
   pub tiles : tileCount (s .head) ≤ amountsRoom
   pub behind : drop (4 * s .count) rects ≡ replicate (shapesRoom - 4 * s .count) 0

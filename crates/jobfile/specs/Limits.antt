@@ -8,7 +8,7 @@ pub record Limits : Type 0 where
   pub shapes : ℕ
   -- N, W, B and corners
   pub side : ℕ
-  -- R, tiles across a window, and tiles across a layout
+  -- R, tiles across a window, and tiles across a layout; I and J are below it
   pub tiles : ℕ
   -- L and U, in ten-thousandths
   pub bound : ℕ

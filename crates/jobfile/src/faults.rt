@@ -110,11 +110,11 @@ fn fill_fault(s: State, rects: &[u64], amounts: &[u64], i: u64, j: u64, p: u64) 
     ensures { λ n. ⌜ n ≡ fillFault (standing s (now (rects .entry)) (now (amounts .entry))) i j p ⌝ }
 {
     let head = s.head;
-    let tiles = tiles_across(head);
-    if tiles <= i {
+    let across = tiles_across(head);
+    if across <= i {
         return 7;
     }
-    if tiles <= j {
+    if across <= j {
         return 7;
     }
     let at = tile_place(head, i, j);

@@ -9,16 +9,17 @@ use crate::limits::MOST_LEVELS;
 use crate::limits::MOST_SIDE;
 use crate::limits::MOST_TILES;
 use geometry::Rect;
+use spelling::MOST_VALUES;
 use spelling::read_as;
 ghost use mathlib.Core.Path.{_≡_};
 ghost use mathlib.Core.Bool.{_&&_};
 ghost use Prim.Native.Nat.{_*_, _/_, _%_, _≤_};
 ghost use lib.Dec.{leb, eqb};
 ghost use Rattle.jobfile.specs.Limits.{unitLimits};
-ghost use Rattle.jobfile.specs.Forms.{headingForm, shapeForm, fillForm, formOf, within, headInRange, rectInRange, fillInRange, inRange, tileSide, tilesAcross, agrees};
+ghost use Rattle.jobfile.specs.Forms.{headingForm, shapeForm, fillForm, formOf, inSpan, headInRange, rectInRange, fillInRange, inRange, tileSide, tilesAcross, agrees};
 
 // The forms of a spelling's numbers.
-fn heading_form(v: [u64; 8]) -> Form
+fn heading_form(v: [u64; MOST_VALUES]) -> Form
     ensures { λ r. ⌜ r ≡ headingForm v ⌝ }
 {
     Form::Heading(Head {
@@ -33,7 +34,7 @@ fn heading_form(v: [u64; 8]) -> Form
     })
 }
 
-fn shape_form(v: [u64; 8]) -> Form
+fn shape_form(v: [u64; MOST_VALUES]) -> Form
     ensures { λ r. ⌜ r ≡ shapeForm v ⌝ }
 {
     Form::Shape(Rect {
@@ -44,7 +45,7 @@ fn shape_form(v: [u64; 8]) -> Form
     })
 }
 
-fn fill_form(v: [u64; 8]) -> Form
+fn fill_form(v: [u64; MOST_VALUES]) -> Form
     ensures { λ r. ⌜ r ≡ fillForm v ⌝ }
 {
     Form::Fill {
@@ -84,7 +85,7 @@ pub(crate) fn form_of(line: &[u8]) -> Form
 }
 
 fn in_span(lo: u64, hi: u64, n: u64) -> bool
-    ensures { λ r. ⌜ r ≡ within lo hi n ⌝ }
+    ensures { λ r. ⌜ r ≡ inSpan lo hi n ⌝ }
 {
     lo <= n && n <= hi
 }
@@ -96,7 +97,7 @@ pub(crate) fn both(a: bool, b: bool) -> bool
 }
 
 fn in_spans(lo: u64, hi: u64, n: u64, low: u64, high: u64, m: u64) -> bool
-    ensures { λ r. ⌜ r ≡ (within lo hi n && within low high m) ⌝ }
+    ensures { λ r. ⌜ r ≡ (inSpan lo hi n && inSpan low high m) ⌝ }
 {
     both(in_span(lo, hi, n), in_span(low, high, m))
 }
@@ -193,12 +194,12 @@ fn divides(h: Head) -> bool
     both(is_multiple(h.window, h.cut), is_multiple(h.size, side))
 }
 
-// At most 64 tiles lie across the layout, and L is at most U.
+// No more tiles lie across the layout than are allowed, and L is at most U.
 fn few_tiles(h: Head) -> bool
     ensures { λ r. ⌜ r ≡ (leb (tilesAcross h) (unitLimits .tiles) && leb (h .lower) (h .upper)) ⌝ }
 {
-    let tiles = tiles_across(h);
-    both(tiles <= MOST_TILES, h.lower <= h.upper)
+    let across = tiles_across(h);
+    both(across <= MOST_TILES, h.lower <= h.upper)
 }
 
 pub(crate) fn head_agrees(h: Head) -> bool

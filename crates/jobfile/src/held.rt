@@ -35,8 +35,8 @@ pub(crate) fn tile_place(h: Head, i: u64, j: u64) -> usize
     requires { ⌜ TileIn h i j ⌝ }
     ensures { λ r. ⌜ r ≡ tileIndex (tilesAcross h) i j ⌝ }
 {
-    let tiles = tiles_across(h);
-    (j * tiles + i) as usize
+    let across = tiles_across(h);
+    (j * across + i) as usize
 }
 
 // Stores a rectangle behind those that stand.

@@ -21,14 +21,14 @@ ghost use Rattle.jobfile.specs.Held.{asJob};
 
 // The numbers of the head, in the order of their spelling.
 pub struct Head {
-    pub size: u64,
-    pub window: u64,
-    pub cut: u64,
-    pub gap: u64,
-    pub lower: u64,
-    pub upper: u64,
-    pub accuracy: u64,
-    pub levels: u64,
+    pub size: u64, // N, the side of the layout
+    pub window: u64, // W, the side of the window
+    pub cut: u64, // R, the tiles across a window
+    pub gap: u64, // B, the least gap between fill and drawn metal
+    pub lower: u64, // L, a bound in ten-thousandths
+    pub upper: u64, // U, a bound in ten-thousandths
+    pub accuracy: u64, // E, in thousandths
+    pub levels: u64, // V, the levels allowed in the quick run
 }
 
 // What a line spells. Unknown is a line that is none of the spellings.

@@ -13,7 +13,7 @@ use crate::limits::SHAPES_ROOM;
 use spelling::first_line;
 ghost use mathlib.Core.Path.{_≡_};
 ghost use lib.ListN.{replicate};
-ghost use Rattle.spelling.specs.Text.{parts};
+ghost use Rattle.spelling.specs.Text.{pieces};
 ghost use Rattle.jobfile.specs.Limits.{unitLimits};
 ghost use Rattle.jobfile.specs.Faults.{beforeHead};
 ghost use Rattle.jobfile.specs.File.{refused, readLines};
@@ -64,7 +64,7 @@ fn end_fault(turn: Turn) -> u64
 // Reads all lines of a file into cleared tables.
 pub(crate) fn read_lines(file: &[u8], rects: &mut [u64], amounts: &mut [u64]) -> Ending
     requires { ⌜ (now rects ≡ replicate shapesRoom 0) × (now amounts ≡ replicate amountsRoom 0) ⌝ }
-    ensures { λ e. ⌜ jobOf e (now (rects .exit)) (now (amounts .exit)) ≡ asJob (readLines unitLimits beforeHead 1 (parts (now (file .entry)))) ⌝ }
+    ensures { λ e. ⌜ jobOf e (now (rects .exit)) (now (amounts .exit)) ≡ asJob (readLines unitLimits beforeHead 1 (pieces (now (file .entry)))) ⌝ }
 {
     let mut s = State {
         turn: Turn::Before,

@@ -56,9 +56,9 @@ fn judged_number(head: Head, rects: &[u64], amounts: &[u64]) -> u64
     ensures { λ r. ⌜ r ≡ verdictNumber (answerOf (standingOf head (now (rects .entry)) (now (amounts .entry))) .verdict) ⌝ }
 {
     let side = jobfile::tile_side(head);
-    let tiles = jobfile::tiles_across(head);
+    let across = jobfile::tiles_across(head);
     let plan = Plan {
-        across: tiles,
+        across,
         cut: head.cut,
         side,
         window: head.window,

@@ -11,7 +11,7 @@ use lib.Dec.{eqb}
 use lib.ListN.{length, getD, drop, drop-of-length-le, length-drop}
 use lib.Seq.{drop-cons, drop-drop, getD-drop}
 use Rattle.spelling.specs.declared.Numeral.{Numeral}
-use Rattle.spelling.specs.Decimal.{isDigit, digitsOf, valueFrom, spells, isNumeral}
+use Rattle.spelling.specs.Decimal.{isDigit, digitsOf, valueFrom, isSpelling, isNumeral}
 use Rattle.spelling.specs.Scanning.{digitFirst, asNumeral}
 use Rattle.spelling.proofs.Numerals.{canonical, canonical-test, digits-all, digit-from, is-digit}
 
@@ -103,20 +103,20 @@ canonical-more (b ∷ []) h = absurd (omega arith)
 canonical-more (b ∷ c ∷ s) h = refl
 
 module _ (line : List ℕ) (at count : ℕ) (counted : count ≡ length (digitsOf (drop at line))) where
-  test : spells (digitsOf (drop at line)) ≡ canonical (digitsOf (drop at line))
+  test : isSpelling (digitsOf (drop at line)) ≡ canonical (digitsOf (drop at line))
   test = canonical-test (digitsOf (drop at line)) (digits-all (drop at line))
 
-  pub spells-none : count ≡ 0 → false ≡ spells (digitsOf (drop at line))
+  pub spells-none : count ≡ 0 → false ≡ isSpelling (digitsOf (drop at line))
   spells-none h = sym (test ∙ canonical-none (digitsOf (drop at line)) (sym counted ∙ h))
 
-  pub spells-one : count ≡ 1 → true ≡ spells (digitsOf (drop at line))
+  pub spells-one : count ≡ 1 → true ≡ isSpelling (digitsOf (drop at line))
   spells-one h = sym (test ∙ canonical-one (digitsOf (drop at line)) (sym counted ∙ h))
 
   module _ (some : count ≡ 0 → ⊥) (other : count ≡ 1 → ⊥) where
     pub first-in-line : at < length line
     first-in-line = omega (arith, counted, digits-within (drop at line), length-drop at line)
 
-    pub spells-more : not (eqb (getD line at 0) 48) ≡ spells (digitsOf (drop at line))
+    pub spells-more : not (eqb (getD line at 0) 48) ≡ isSpelling (digitsOf (drop at line))
     spells-more =
         sym (test ∙ canonical-more (digitsOf (drop at line)) (omega (arith, counted)) ∙ ap (λ (b : ℕ). not (eqb b 48)) first)
       where
@@ -173,7 +173,7 @@ module _ (line : List ℕ) (at value count d : ℕ) (inv : Counted line at value
     pub counted-all : count ≡ length (digitsOf (drop at line))
     counted-all = omega (arith, inv .many, ap length over)
 
-    module _ (t : Bool) (k : t ≡ spells (digitsOf (drop at line))) where
+    module _ (t : Bool) (k : t ≡ isSpelling (digitsOf (drop at line))) where
       judged : isNumeral digits (digitsOf (drop at line)) ≡ t
       judged = ap₂ _&&_ (le-leb (length (digitsOf (drop at line))) digits (omega (arith, counted-all))) (sym k)
 
@@ -190,4 +190,4 @@ too-many line at value count digits inv h r e =
     e
     ∙ sym
     (no-number digits at (drop at line)
-    (ap (λ (t : Bool). t && spells (digitsOf (drop at line))) (lt-leb (length (digitsOf (drop at line))) digits (omega (arith, inv .many)))))
+    (ap (λ (t : Bool). t && isSpelling (digitsOf (drop at line))) (lt-leb (length (digitsOf (drop at line))) digits (omega (arith, inv .many)))))

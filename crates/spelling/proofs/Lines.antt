@@ -9,7 +9,7 @@ use borrow.Author.Tests.{eq-eqb, ne-eqb}
 use lib.Dec.{eqb}
 use lib.ListN.{length, getD, take, drop, drop-of-length-le}
 use lib.Seq.{drop-cons}
-use Rattle.spelling.specs.Text.{inFront, parts}
+use Rattle.spelling.specs.Text.{inFront, pieces}
 use Rattle.spelling.specs.Scanning.{lineLength}
 
 module _ (b : ℕ) (s : List ℕ) where
@@ -21,13 +21,13 @@ module _ (b : ℕ) (s : List ℕ) where
   unfolding lineLength
   line-goes-on e = rw (e, lineLength)
 
-  parts-ends : eqb b 10 ≡ true → parts (b ∷ s) ≡ [] ∷ parts s
-  unfolding parts
-  parts-ends e = rw (e, parts)
+  pieces-ends : eqb b 10 ≡ true → pieces (b ∷ s) ≡ [] ∷ pieces s
+  unfolding pieces
+  pieces-ends e = rw (e, pieces)
 
-  parts-goes-on : eqb b 10 ≡ false → parts (b ∷ s) ≡ inFront b (parts s)
-  unfolding parts
-  parts-goes-on e = rw (e, parts)
+  pieces-goes-on : eqb b 10 ≡ false → pieces (b ∷ s) ≡ inFront b (pieces s)
+  unfolding pieces
+  pieces-goes-on e = rw (e, pieces)
 
 pub line-within : (s : List ℕ) → lineLength s ≤ length s
 unfolding lineLength
@@ -39,24 +39,24 @@ line-within (b ∷ s) = go (eqb b 10) refl (line-within s)
     go false e h = omega (arith, line-goes-on b s e)
 
 -- the first piece is the first line, and the others are the pieces of what follows its line feed
-pub parts-line : (s : List ℕ) → lineLength s < length s → parts s ≡ take (lineLength s) s ∷ parts (drop (suc (lineLength s)) s)
-parts-line [] h = absurd (omega arith)
-parts-line (b ∷ s) h = go (eqb b 10) refl (parts-line s)
+pub pieces-line : (s : List ℕ) → lineLength s < length s → pieces s ≡ take (lineLength s) s ∷ pieces (drop (suc (lineLength s)) s)
+pieces-line [] h = absurd (omega arith)
+pieces-line (b ∷ s) h = go (eqb b 10) refl (pieces-line s)
   where
-    go : (x : Bool) → eqb b 10 ≡ x → (lineLength s < length s → parts s ≡ take (lineLength s) s ∷ parts (drop (suc (lineLength s)) s))
-        → parts (b ∷ s) ≡ take (lineLength (b ∷ s)) (b ∷ s) ∷ parts (drop (suc (lineLength (b ∷ s))) (b ∷ s))
-    go true e r = rw (line-ends b s e) (parts-ends b s e)
-    go false e r = rw (line-goes-on b s e) (parts-goes-on b s e ∙ ap (inFront b) (r (omega (arith, line-goes-on b s e))))
+    go : (x : Bool) → eqb b 10 ≡ x → (lineLength s < length s → pieces s ≡ take (lineLength s) s ∷ pieces (drop (suc (lineLength s)) s))
+        → pieces (b ∷ s) ≡ take (lineLength (b ∷ s)) (b ∷ s) ∷ pieces (drop (suc (lineLength (b ∷ s))) (b ∷ s))
+    go true e r = rw (line-ends b s e) (pieces-ends b s e)
+    go false e r = rw (line-goes-on b s e) (pieces-goes-on b s e ∙ ap (inFront b) (r (omega (arith, line-goes-on b s e))))
 
 -- where no line feed is left, what is left is the last piece
-pub parts-last : (s : List ℕ) → length s ≤ lineLength s → parts s ≡ s ∷ []
-unfolding parts
-parts-last [] h = refl
-parts-last (b ∷ s) h = go (eqb b 10) refl (parts-last s)
+pub pieces-last : (s : List ℕ) → length s ≤ lineLength s → pieces s ≡ s ∷ []
+unfolding pieces
+pieces-last [] h = refl
+pieces-last (b ∷ s) h = go (eqb b 10) refl (pieces-last s)
   where
-    go : (x : Bool) → eqb b 10 ≡ x → (length s ≤ lineLength s → parts s ≡ s ∷ []) → parts (b ∷ s) ≡ (b ∷ s) ∷ []
+    go : (x : Bool) → eqb b 10 ≡ x → (length s ≤ lineLength s → pieces s ≡ s ∷ []) → pieces (b ∷ s) ≡ (b ∷ s) ∷ []
     go true e r = absurd (omega (arith, line-ends b s e))
-    go false e r = parts-goes-on b s e ∙ ap (inFront b) (r (omega (arith, line-goes-on b s e)))
+    go false e r = pieces-goes-on b s e ∙ ap (inFront b) (r (omega (arith, line-goes-on b s e)))
 
 -- ---- a search for the first line feed that has come to i
 

@@ -11,7 +11,7 @@ use borrow.Author.Tests.{lt-ltb, le-ltb, le-leb, leb-true, eqb-true, eqb-false, 
 use lib.Dec.{leb, eqb, leb·zero}
 use lib.ListN.{length, getD, drop, length-append, List·getD-append}
 use Rattle.laws.proofs.Tests.{both}
-use Rattle.spelling.specs.Decimal.{decimalIn, decimal, isDigit, digitsOf, pastDigits, valueFrom, sameBytes, spells, isNumeral}
+use Rattle.spelling.specs.Decimal.{decimalIn, decimal, isDigit, digitsOf, pastDigits, valueFrom, sameBytes, isSpelling, isNumeral}
 
 -- ---- the two equations of `decimal`, and induction by them
 
@@ -241,10 +241,10 @@ same-equal (a ∷ s) [] e = absurd (false≢true e)
 same-equal (a ∷ s) (b ∷ t) e = let k = both (eqb a b) (sameBytes s t) e in ap₂ _∷_ (eqb-true a b (k .0)) (same-equal s t (k .1))
 
 -- the code's test is the one of `isNumeral`
-pub canonical-test : (ds : List ℕ) → allDigits ds ≡ true → spells ds ≡ canonical ds
+pub canonical-test : (ds : List ℕ) → allDigits ds ≡ true → isSpelling ds ≡ canonical ds
 canonical-test ds g = go (sameBytes (decimal (valueFrom 0 ds)) ds) (canonical ds) refl refl
   where
-    go : (x y : Bool) → sameBytes (decimal (valueFrom 0 ds)) ds ≡ x → canonical ds ≡ y → spells ds ≡ canonical ds
+    go : (x y : Bool) → sameBytes (decimal (valueFrom 0 ds)) ds ≡ x → canonical ds ≡ y → isSpelling ds ≡ canonical ds
     go true y e f = e ∙ sym (rw (same-equal (decimal (valueFrom 0 ds)) ds e) at (decimal-canonical (valueFrom 0 ds)))
     go false false e f = e ∙ sym f
     go false true e f = rw (canonical-spelling ds g f) (same-self ds) ∙ sym f

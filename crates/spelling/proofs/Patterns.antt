@@ -9,7 +9,7 @@ use lib.ListN.{length, getD, replicate}
 use Rattle.spelling.specs.declared.Reading.{Reading}
 use Rattle.spelling.specs.Decimal.{decimal, digitsOf, pastDigits, valueFrom, isNumeral}
 use Rattle.spelling.specs.Pattern.{isPlace, spell, withNumber, readAs}
-use Rattle.spelling.specs.Scanning.{places, asReading}
+use Rattle.spelling.specs.Scanning.{mostValues, places, asReading}
 use Rattle.spelling.proofs.Numerals.{no-numeral}
 
 module _ (c : ℕ) (p : List ℕ) (e : isPlace c ≡ true) where
@@ -82,7 +82,7 @@ reading-found (some ns) r e y =
     record {
       numbers = ns;
       is = refl;
-      at = λ i. ap (λ (x : Reading). getD (x .values) i 0) e ∙ zeros-behind ns (8 - length ns) i;
+      at = λ i. ap (λ (x : Reading). getD (x .values) i 0) e ∙ zeros-behind ns (mostValues - length ns) i;
     }
 
 pub reading-missed : (read : Option (List ℕ)) (r : Reading) → r ≡ asReading read → r .ok ≡ false → read ≡ none

@@ -12,7 +12,7 @@ use lib.Seq.{drop-cons, drop-drop, set-append-seam}
 use Rattle.spelling.specs.declared.Numeral.{Numeral}
 use Rattle.spelling.specs.declared.Reading.{Reading}
 use Rattle.spelling.specs.Decimal.{digitsOf, pastDigits, valueFrom, isNumeral}
-use Rattle.spelling.specs.Scanning.{places, asReading, asNumeral}
+use Rattle.spelling.specs.Scanning.{mostValues, places, asReading, asNumeral}
 use Rattle.spelling.specs.Pattern.{isPlace, withNumber, readAs}
 use Rattle.spelling.proofs.Numerals.{past-is-drop}
 use Rattle.spelling.proofs.Digits.{number, no-number, digits-within}
@@ -27,7 +27,7 @@ prefixed ns (some ms) = some (ns ++ ms)
 pub record ReadTo (most : ℕ) (p s table : List ℕ) (count at j : ℕ) : Type 0 where
   pub numbers : List ℕ
   pub counted : count ≡ length numbers
-  pub filled : table ≡ numbers ++ replicate (8 - length numbers) 0
+  pub filled : table ≡ numbers ++ replicate (mostValues - length numbers) 0
   pub in-pattern : j ≤ length p
   pub in-line : at ≤ length s
   pub left : count + places (drop j p) ≡ places p
@@ -55,20 +55,20 @@ prefixed-more ns v none = refl
 prefixed-more ns v (some ms) = ap {B = Option (List ℕ)} some (sym (append-assoc ns (v ∷ []) ms))
 
 -- the next free cell of the table takes a number
-filled-more : (ns : List ℕ) (v : ℕ) → length ns < 8 →
-    set (ns ++ replicate (8 - length ns) 0) (length ns) v ≡ (ns ++ (v ∷ [])) ++ replicate (8 - length (ns ++ (v ∷ []))) 0
+filled-more : (ns : List ℕ) (v : ℕ) → length ns < mostValues →
+    set (ns ++ replicate (mostValues - length ns) 0) (length ns) v ≡ (ns ++ (v ∷ [])) ++ replicate (mostValues - length (ns ++ (v ∷ []))) 0
 filled-more ns v h =
     rw (one-less)
-    (set-append-seam ns 0 (replicate (7 - length ns) 0) v ∙ sym (append-assoc ns (v ∷ []) (replicate (7 - length ns) 0))
+    (set-append-seam ns 0 (replicate (mostValues - suc (length ns)) 0) v ∙ sym (append-assoc ns (v ∷ []) (replicate (mostValues - suc (length ns)) 0))
     ∙ ap (λ (n : ℕ). (ns ++ (v ∷ [])) ++ replicate n 0) rest)
   where
-    one-less : 8 - length ns ≡ suc (7 - length ns)
+    one-less : mostValues - length ns ≡ suc (mostValues - suc (length ns))
     one-less = omega arith
 
-    rest : 7 - length ns ≡ 8 - length (ns ++ (v ∷ []))
+    rest : mostValues - suc (length ns) ≡ mostValues - length (ns ++ (v ∷ []))
     rest = omega (arith, length-append ns (v ∷ []))
 
-pub read-start : (most : ℕ) (p s : List ℕ) → ReadTo most p s (replicate 8 0) 0 0 0
+pub read-start : (most : ℕ) (p s : List ℕ) → ReadTo most p s (replicate mostValues 0) 0 0 0
 read-start most p s =
     record {
       numbers = [];
@@ -96,7 +96,7 @@ module _ (most : ℕ) (p s table : List ℕ) (count at j : ℕ) (inv : ReadTo mo
       is-place : isPlace (getD p j 0) ≡ true
       is-place = eq-eqb (getD p j 0) 35 place
 
-      pub room : places p ≤ 8 → count < 8
+      pub room : places p ≤ mostValues → count < mostValues
       room h = omega (arith, inv .left, ap places next, places-place (getD p j 0) (drop (suc j) p) is-place)
 
       pub number-missing : n .ok ≡ false → (r : Reading) → r ≡ asReading none → r ≡ asReading (readAs most p s)
@@ -105,7 +105,7 @@ module _ (most : ℕ) (p s table : List ℕ) (count at j : ℕ) (inv : ReadTo mo
           (ap (λ (q : List ℕ). readAs most q (drop at s)) next
           ∙ read-no-number (getD p j 0) (drop (suc j) p) is-place most (drop at s) (numeral-missed most at (drop at s) n read y))
 
-      pub number-read : places p ≤ 8 → n .ok ≡ true → ReadTo most p s (set table count (n .value)) (count + 1) (n .next) (j + 1)
+      pub number-read : places p ≤ mostValues → n .ok ≡ true → ReadTo most p s (set table count (n .value)) (count + 1) (n .next) (j + 1)
       number-read few y =
           record {
             numbers = inv .numbers ++ (n .value ∷ []);

@@ -19,6 +19,8 @@ abbrev pub EachShort : (most : ℕ) → List ℕ → Type 0
 EachShort most [] = Unit {0}
 EachShort most (n ∷ ns) = (length (decimal n) ≤ most) × EachShort most ns
 
+-- ---- reading a number; a buyer need not read on, since jobfile's `Acceptance` speaks of spellings alone
+
 -- an ASCII digit
 abbrev pub isDigit : ℕ → Bool
 isDigit b = leb 48 b && leb b 57
@@ -45,9 +47,9 @@ sameBytes (a ∷ s) [] = false
 sameBytes (a ∷ s) (b ∷ t) = eqb a b && sameBytes s t
 
 -- digits spell the number that they stand for
-abbrev pub spells : List ℕ → Bool
-spells ds = sameBytes (decimal (valueFrom 0 ds)) ds
+abbrev pub isSpelling : List ℕ → Bool
+isSpelling ds = sameBytes (decimal (valueFrom 0 ds)) ds
 
 -- digits are a number's spelling: those of the number that they stand for, and at most `most` of them
 abbrev pub isNumeral : ℕ → List ℕ → Bool
-isNumeral most ds = leb (length ds) most && spells ds
+isNumeral most ds = leb (length ds) most && isSpelling ds

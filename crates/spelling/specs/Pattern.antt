@@ -10,11 +10,13 @@ use Rattle.spelling.specs.Decimal.{decimal, digitsOf, pastDigits, valueF
 abbrev pub isPlace : ℕ → Bool
 isPlace c = eqb c 35
 
--- the spelling of a pattern with numbers
+-- the spelling of a pattern with numbers; a # for which no number is left stands as it is
 unfoldable pub spell : List ℕ → List ℕ → List ℕ
 spell [] ns = []
 spell (c ∷ p) [] = c ∷ spell p []
 spell (c ∷ p) (n ∷ ns) = elim (isPlace c) [ true ↦ decimal n ++ spell p ns | false ↦ c ∷ spell p (n ∷ ns) ]
+
+-- ---- reading a line; a buyer need not read on, since jobfile's `Acceptance` speaks of spellings alone
 
 -- one more number in front of what was read
 abbrev pub withNumber : ℕ → Option (List ℕ) → Option (List ℕ)

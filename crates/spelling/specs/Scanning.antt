@@ -1,5 +1,5 @@
 -- What the code goes by on its way through a line, and what it hands back. A buyer need not read it: no contract of the unit's public
--- functions names it. It leads to `parts`, `spell` and `readAs`, which say what lines and spellings are.
+-- functions names it. It leads to `pieces`, `spell` and `readAs`, which say what lines and spellings are.
 use Prim.Native.Nat.{ℕ, suc, _+_, _-_}
 use mathlib.Core.Bool.{true, false}
 use mathlib.Core.List.{List, [], _∷_, _++_}
@@ -34,7 +34,14 @@ unfoldable pub places : List ℕ → ℕ
 places [] = 0
 places (c ∷ p) = elim (isPlace c) [ true ↦ suc (places p) | false ↦ places p ]
 
+-- the numbers that a reading has room for, as `MOST_VALUES` in src/, and the most digits whose number always fits 64 bits
+abbrev pub mostValues : ℕ
+mostValues = 8
+
+abbrev pub digitsRoom : ℕ
+digitsRoom = 18
+
 -- what was read, as the code returns it: the numbers in order, 0 behind them and everywhere where nothing was read
 abbrev pub asReading : Option (List ℕ) → Reading
-asReading none = record { ok = false; values = replicate 8 0 }
-asReading (some ns) = record { ok = true; values = ns ++ replicate (8 - length ns) 0 }
+asReading none = record { ok = false; values = replicate mostValues 0 }
+asReading (some ns) = record { ok = true; values = ns ++ replicate (mostValues - length ns) 0 }

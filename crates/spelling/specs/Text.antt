@@ -10,12 +10,14 @@ unfoldable pub bytes : String → List ℕ
 bytes empty = []
 bytes (c then s) = code c ∷ bytes s
 
+-- ---- the lines of a file; a buyer need not read on, since jobfile's `Acceptance` speaks of spellings alone
+
 -- one more byte in front of the first of some pieces
 abbrev pub inFront : ℕ → List (List ℕ) → List (List ℕ)
 inFront b [] = (b ∷ []) ∷ []
 inFront b (p ∷ ps) = (b ∷ p) ∷ ps
 
 -- the pieces of a text between its line feeds: its lines, and last what follows the last line feed
-unfoldable pub parts : List ℕ → List (List ℕ)
-parts [] = [] ∷ []
-parts (b ∷ s) = elim (eqb b 10) [ true ↦ [] ∷ parts s | false ↦ inFront b (parts s) ]
+unfoldable pub pieces : List ℕ → List (List ℕ)
+pieces [] = [] ∷ []
+pieces (b ∷ s) = elim (eqb b 10) [ true ↦ [] ∷ pieces s | false ↦ inFront b (pieces s) ]

@@ -5,17 +5,19 @@ ghost use mathlib.Core.Option.{none};
 ghost use Prim.Native.Nat.{_+_, _≤_, _<_};
 ghost use lib.Dec.{ltb};
 ghost use lib.ListN.{length, drop};
-ghost use Rattle.spelling.specs.Scanning.{places, asReading, digitFirst, asNumeral, lineLength};
-ghost use Rattle.spelling.specs.Decimal.{decimal, digitsOf, spells};
+ghost use Rattle.spelling.specs.Scanning.{mostValues, digitsRoom, places, asReading, digitFirst, asNumeral, lineLength};
+ghost use Rattle.spelling.specs.Decimal.{decimal, digitsOf, isSpelling};
 ghost use Rattle.spelling.specs.Pattern.{isPlace, spell, readAs};
 ghost use Rattle.buffers.specs.Written.{Written};
 
+// No pattern asks for more numbers than the head's.
+pub const MOST_VALUES: usize = 8;
+
 // What reading a line against a pattern gives: whether the line is the
-// pattern's, and its numbers in order, 0 behind them. No pattern asks for more
-// than eight.
+// pattern's, and its numbers in order, 0 behind them.
 pub struct Reading {
     pub ok: bool,
-    pub values: [u64; 8],
+    pub values: [u64; MOST_VALUES],
 }
 
 // What reading a number gives: whether one stands there, its value, and the
@@ -69,7 +71,7 @@ fn digit(line: &[u8], at: usize) -> u64
 // some, and no zero leads them but for 0 itself.
 fn canonical(line: &[u8], at: usize, count: usize) -> bool
     requires { ⌜ count ≡ length (digitsOf (drop at (now line))) ⌝ }
-    ensures { λ r. ⌜ r ≡ spells (digitsOf (drop at (now (line .entry)))) ⌝ }
+    ensures { λ r. ⌜ r ≡ isSpelling (digitsOf (drop at (now (line .entry)))) ⌝ }
 {
     if count == 0 {
         return false;
@@ -82,7 +84,7 @@ fn canonical(line: &[u8], at: usize, count: usize) -> bool
 
 // Reads the number at a place of a line, of at most so many digits.
 fn read_number(line: &[u8], at: usize, digits: usize) -> Numeral
-    requires { ⌜ (at ≤ length (now line)) × (digits ≤ 18) ⌝ }
+    requires { ⌜ (at ≤ length (now line)) × (digits ≤ digitsRoom) ⌝ }
     ensures { λ r. ⌜ r ≡ asNumeral digits at (drop at (now (line .entry))) ⌝ }
 {
     let mut value: u64 = 0;
@@ -122,16 +124,16 @@ fn not_read() -> Reading
 {
     Reading {
         ok: false,
-        values: [0u64; 8],
+        values: [0u64; MOST_VALUES],
     }
 }
 
 // Reads a line against a pattern, each number of at most so many digits.
 pub fn read_as(line: &[u8], pattern: &[u8], digits: usize) -> Reading
-    requires { ⌜ (places (now pattern) ≤ 8) × (digits ≤ 18) ⌝ }
+    requires { ⌜ (places (now pattern) ≤ mostValues) × (digits ≤ digitsRoom) ⌝ }
     ensures { λ r. ⌜ r ≡ asReading (readAs digits (now (pattern .entry)) (now (line .entry))) ⌝ }
 {
-    let mut values = [0u64; 8];
+    let mut values = [0u64; MOST_VALUES];
     let mut count: usize = 0;
     let mut at: usize = 0;
     let mut j: usize = 0;

@@ -20,7 +20,8 @@ use Rattle.jobfile.proofs.Accepted.{AcceptedFacts, accepted-facts, padded-front
 use Rattle.unit.specs.Answering.{answerOf, textOf}
 use Rattle.unit.specs.Guarantee.{FilePromise}
 use Rattle.unit.specs.Ready.{Ready, jobStanding, Readable}
-use Rattle.unit.specs.Rendering.{answerRoom, WrittenIn, Rendering}
+use Rattle.unit.specs.Room.{answerRoom}
+use Rattle.unit.specs.Rendering.{WrittenIn, Rendering}
 use Rattle.unit.proofs.Demand.{Runs, promises-kept}
 
 -- ---- an accepted file
@@ -43,7 +44,7 @@ facts-run st f =
 pub promised : (file : List ℕ) → FilePromise file
 promised file =
     let k = acceptance unitLimits file in
-    record { meaning = k; demand-3 = λ st a. promises-kept st (facts-run st (accepted-facts file st (k .accepted-if st a))) }
+    record { meaning = k; promises = λ st a. promises-kept st (facts-run st (accepted-facts file st (k .accepted-if st a))) }
 
 facts-ready : (st : Standing) → AcceptedFacts st → Ready (st .head) (tableOf (st .shapes)) (st .amounts)
 facts-ready st f =
@@ -84,7 +85,7 @@ facts-readable st f =
     record {
       shapes = f .few;
       room = padded-length shapesRoom (tableOf (st .shapes)) (omega (arith, length-table (st .shapes), f .few));
-      cells = padded-length amountsRoom (st .amounts) (omega (arith, f .sized, tiles-few (tilesAcross (st .head)) (f .head .tiles-most)));
+      amounts-room = padded-length amountsRoom (st .amounts) (omega (arith, f .sized, tiles-few (tilesAcross (st .head)) (f .head .tiles-most)));
       tiles = f .head .tiles-most;
       ready = rw (table-front (st .shapes), amounts-front st f) (facts-ready st f);
     }
@@ -100,9 +101,12 @@ first-positive (faulty fs l after t n g fault bad) z = bad z
 first-positive (unfed fs l t n p g) z = omega (arith, z)
 first-positive (unended fs t g n) z = omega (arith, z)
 
-refused-positive : (file : List ℕ) (number line : ℕ) → RefusedFile unitLimits file number line → number ≡ 0 → ⊥
-refused-positive file number line (long h) z = omega (arith, z)
-refused-positive file number line (lines h c) z = first-positive c z
+refused-file-positive : (file : List ℕ) (number line : ℕ) → RefusedFile unitLimits file number line → number ≡ 0 → ⊥
+refused-file-positive file number line (long h) z = omega (arith, z)
+refused-file-positive file number line (lines h c) z = first-positive c z
+
+pub refused-positive : (file : List ℕ) (number line : ℕ) → outcomeOf unitLimits file ≡ refused number line → number ≡ 0 → ⊥
+refused-positive file number line e = refused-file-positive file number line (acceptance unitLimits file .refused-only-if number line e)
 
 -- so a file is accepted where the number that is carried of its outcome, which is the fault's of a refused one, is 0
 pub found-accepted : (file : List ℕ) (numberOf : Outcome → ℕ) → ((number line : ℕ) → numberOf (refused number line) ≡ number) →
@@ -112,9 +116,7 @@ found-accepted file numberOf fault good = go (outcomeOf unitLimits file) refl
     go : (o : Outcome) → outcomeOf unitLimits file ≡ o → (st : Standing) × (outcomeOf unitLimits file ≡ accepted st)
     go (accepted st) e = (st, e)
     go (refused number line) e =
-        absurd
-        (refused-positive file number line (acceptance unitLimits file .refused-only-if number line e)
-        (sym (fault number line) ∙ sym (ap numberOf e) ∙ good))
+        absurd (refused-positive file number line e (sym (fault number line) ∙ sym (ap numberOf e) ∙ good))
 
 -- ---- what rendering leaves
 

@@ -10,7 +10,7 @@ use Rattle.extremes.specs.Exact.{extreme}
 use Rattle.zoom.specs.Run.{levelOf, levelAt, runFrom, quickRun}
 use Rattle.fill.specs.Eligible.{clearOfAll}
 use Rattle.fill.specs.Judge.{failingInRow, failingInRows, standardFailing, marginFailing}
-use Rattle.spelling.specs.Text.{bytes, parts}
+use Rattle.spelling.specs.Text.{bytes, pieces}
 use Rattle.spelling.specs.Decimal.{decimal, decimalIn, digitsOf, pastDigits, valueFrom, sameBytes}
 use Rattle.spelling.specs.Pattern.{spell, readAs}
 use Rattle.jobfile.specs.Forms.{headPattern, rectPattern, fillPattern, endPattern, formOf}
@@ -20,5 +20,5 @@ use Rattle.unit.specs.Answering.{answerOf, textOf}
 use Rattle.unit.specs.Cases.{paperRows, byteRows}
 
 pub cases : foundIn (paperRows ++ byteRows) ≡ statedIn (paperRows ++ byteRows)
-unfolding sum covered bestInRow bestInRows extreme levelOf levelAt runFrom quickRun trailingZeros clearOfAll failingInRow failingInRows standardFailing marginFailing bytes parts decimal decimalIn digitsOf pastDigits valueFrom sameBytes spell readAs headPattern rectPattern fillPattern endPattern formOf shapeFault fillFault lineFault standsAfter readLines outcomeOf answerOf textOf
+unfolding sum covered bestInRow bestInRows extreme levelOf levelAt runFrom quickRun trailingZeros clearOfAll failingInRow failingInRows standardFailing marginFailing bytes pieces decimal decimalIn digitsOf pastDigits valueFrom sameBytes spell readAs headPattern rectPattern fillPattern endPattern formOf shapeFault fillFault lineFault standsAfter readLines outcomeOf answerOf textOf
 cases = refl

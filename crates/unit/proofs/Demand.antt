@@ -21,7 +21,7 @@ use Rattle.zoom.specs.Grid.{AtStart}
 use Rattle.zoom.proofs.Steps.{step-positive}
 use Rattle.zoom.proofs.Starts.{start-fits, fits-start}
 use Rattle.zoom.proofs.Bracket.{Placed, Promised, Accurate, quick-run-promises, levels-at-most}
-use Rattle.zoom.proofs.LastLevel.{last-level, floor-start, floor-best}
+use Rattle.zoom.proofs.RunEnd.{EndsAtLevel, run-end, floor-start, floor-best}
 use Rattle.fill.specs.declared.Plan.{Plan}
 use Rattle.fill.specs.declared.Bound.{Bound}
 use Rattle.fill.specs.declared.Bound.the-variants.{Over, Under}
@@ -140,7 +140,9 @@ quick-kept st r =
       floor-below = p .brackets .low;
       ceiling-above = p .brackets .high;
       met = λ e. midpoint (h .accuracy) (extreme Greatest (st .shapes) n w .area) (q .last .named .area) (q .last .limit) (p .accurate (number-end (q .end) Met e));
+      some-level = ended .some;
       levels-done = levels-at-most Greatest (st .shapes) n w (h .accuracy) (h .levels) (r .some-level);
+      level-exists = λ j k. start j k .0;
       floor-start = λ j k. start-of st j (q .last .named) (step j k) (start j k .1);
       floor-largest = λ j k x y a.
           rw (a .across, a .down)
@@ -148,8 +150,7 @@ quick-kept st r =
           (floor-best Greatest (st .shapes) n w (h .accuracy) (h .levels) (r .some-window) (r .window-fits) j (k .done) (other j k) (a .column) (a .row)
           (fits-start n w (levelStep w j) (a .column) (step j k) (omega (arith, a .across, a .position .across)))
           (fits-start n w (levelStep w j) (a .row) (step j k) (omega (arith, a .down, a .position .down)))));
-      exact-ends = λ e.
-          last-level Greatest (st .shapes) n w (h .accuracy) (h .levels) (r .some-window) (r .window-fits) .exact (number-end (q .end) Exact e);
+      exact-ends = λ e. ended .exact (number-end (q .end) Exact e);
     }
   where
     h : Head
@@ -169,6 +170,9 @@ quick-kept st r =
 
     named : Placed (st .shapes) (st .head .size) (st .head .window) (q .last .named)
     named = p .brackets .named
+
+    ended : EndsAtLevel Greatest (st .shapes) (st .head .size) (st .head .window) q
+    ended = run-end Greatest (st .shapes) n w (h .accuracy) (h .levels) (r .some-window) (r .window-fits)
 
     other : (j : ℕ) → EndsWith q j → q .end ≡ Exact → ⊥
     other j k e = k .not-exact (ap endNumber e)

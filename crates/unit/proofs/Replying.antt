@@ -1,12 +1,12 @@
 -- From what rendering leaves to the reply and the buffer.
 use Prim.Native.Nat.{ℕ, _+_, _^_, _≤_, _<_}
-use mathlib.Core.Path.{_≡_, refl, sym, ap, _∙_}
+use mathlib.Core.Path.{_≡_, refl, sym, ap, _∙_, subst}
 use mathlib.Core.Bool.{Bool, true, false, not, _&&_}
 use mathlib.Core.List.{List, [], _∷_, _++_}
 use native.Mathlib.Nat.{zero-add}
 use native.Mathlib.Omega.{arith}
-use borrow.Author.Tests.{le-leb, lt-leb, leb-true}
-use lib.Dec.{leb, ltb, eqb, lit≤}
+use borrow.Author.Tests.{le-leb, lt-leb}
+use lib.Dec.{leb, ltb, eqb, lit<, lit≤}
 use lib.ListN.{length, take, drop, length-append}
 use lib.Seq.{take-at}
 use Rattle.geometry.specs.Layout.{sharesSquare}
@@ -28,106 +28,12 @@ use Rattle.unit.specs.declared.Reply.the-variants.{Accepted, Refused}
 use Rattle.unit.specs.declared.render.Rendered.{Rendered}
 use Rattle.unit.specs.Answering.{answerOf, textOf}
 use Rattle.unit.specs.Whole.{replyTo, bufferAfter, replyFor, bufferFor, replyNumber, replyValue, codeOf, printedOf, printedFor}
+use Rattle.unit.specs.Room.{answerRoom}
 use Rattle.unit.specs.Guarantee.{Guarantee, Reported}
 use Rattle.unit.specs.Rendering.{WrittenIn, asRendered, renderedIn, Rendering}
-use Rattle.unit.proofs.Accepting.{promised, found-accepted}
+use Rattle.unit.proofs.Accepting.{promised, refused-positive, found-accepted}
 
--- ---- what the reply and the buffer say of what is printed
-
--- an answer that was accepted stands at the front of the buffer
-accepted-front : (t before : List ℕ) (b : Bool) (n : ℕ) → elim b as (λ _. Reply) [ true ↦ Accepted (length t) | false ↦ Refused 13 0 ] ≡ Accepted n →
-    take n (elim b as (λ _. List ℕ) [ true ↦ atFront t before | false ↦ before ]) ≡ t
-accepted-front t before true n e = take-at t (drop (length t) before) n (ap replyValue e)
-accepted-front t before false n e = let z : _≡_ {A = ℕ} 0 1 = cc in absurd (omega arith)
-
-printed-front : (o : Outcome) (before : List ℕ) (n : ℕ) → replyTo o (length before) ≡ Accepted n → take n (bufferAfter o before) ≡ printedOf o
-printed-front (accepted st) before n e =
-    accepted-front (textOf (answerOf st)) before (leb (length (textOf (answerOf st))) (length before)) n e
-printed-front (refused number line) before n e = let z : _≡_ {A = ℕ} 0 1 = cc in absurd (omega arith)
-
-pub guaranteed : (file before : List ℕ) (r : Reply) (after : List ℕ) → (r ≡ replyFor file (length before)) × (after ≡ bufferFor file before) →
-    Guarantee file before r after
-guaranteed file before r after k =
-    record {
-      reply = k .0;
-      buffer = k .1;
-      printed = λ n e. ap (take n) (k .1) ∙ printed-front (outcomeOf unitLimits file) before n (sym (k .0) ∙ e);
-      promised = promised file;
-    }
-
-pub reported : {file before : List ℕ} {n : ℕ} {after : List ℕ} → Front before (printedFor file) after n → Reported file before n after
-reported {file = file} f = record { printed = f; promised = promised file }
-
--- ---- the three ways in which `answer` returns
-
-module _ (file before text : List ℕ) (d : Rendered) (p : Rendering (outcomeOf unitLimits file) before text d) where
-  -- where rendering found no fault the file is accepted, and its text stands at the front
-  found : d .fault ≡ 0 → (st : Standing) × (outcomeOf unitLimits file ≡ accepted st)
-  found good = found-accepted file (λ o. asRendered o .fault) (λ number line. refl) (sym (ap (λ (r : Rendered). r .fault) (p .numbers)) ∙ good)
-
-  pub answer-refused : (d .fault ≡ 0 → ⊥) → (out : List ℕ) → (Refused (d .fault) (d .line) ≡ replyFor file (length out)) × (out ≡ bufferFor file out)
-  answer-refused bad out = go (outcomeOf unitLimits file) (p .numbers)
-    where
-      go : (o : Outcome) → d ≡ asRendered o → (Refused (d .fault) (d .line) ≡ replyTo o (length out)) × (out ≡ bufferAfter o out)
-      go (accepted st) e = absurd (bad (ap (λ (r : Rendered). r .fault) e))
-      go (refused number line) e = (λ i. Refused (e i .fault) (e i .line), refl)
-
-  module _ (good : d .fault ≡ 0) (out : List ℕ) where
-    st : Standing
-    st = found good .0
-
-    is : outcomeOf unitLimits file ≡ accepted st
-    unfolding st
-    is = found good .1
-
-    long-is : d .length ≡ length (textOf (answerOf st))
-    long-is = ap (λ (r : Rendered). r .length) (p .numbers ∙ ap asRendered is)
-
-    pub answer-short : length out < d .length → (Refused 13 0 ≡ replyFor file (length out)) × (out ≡ bufferFor file out)
-    answer-short h =
-        let t : leb (length (textOf (answerOf st))) (length out) ≡ false = lt-leb (length (textOf (answerOf st))) (length out) (omega (arith, long-is)) in
-        rw (is, replyTo, bufferAfter) (rw t (refl, refl))
-
-    front : take (d .length) text ≡ textOf (answerOf st)
-    front =
-        ap (λ (s : List ℕ). take (d .length) s) (p .buffer ∙ ap (λ (o : Outcome). renderedIn o before) is)
-        ∙ take-at (textOf (answerOf st)) (drop (length (textOf (answerOf st))) before) (d .length) (sym long-is)
-
-    pub answer-fits : {room : ℕ} (after : List ℕ) (next : ℕ) → d .length ≤ length out → WrittenIn room out 0 (take (d .length) text) after next →
-        (Accepted (d .length) ≡ replyFor file (length out)) × (after ≡ bufferFor file out)
-    answer-fits after next h w =
-        let t : leb (length (textOf (answerOf st))) (length out) ≡ true = le-leb (length (textOf (answerOf st))) (length out) (omega (arith, long-is)) in
-        let put : after ≡ textOf (answerOf st) ++ drop (length (textOf (answerOf st))) out =
-        w .written .buffer ∙ ap (λ (k : ℕ). take (d .length) text ++ drop k out) (zero-add (length (take (d .length) text)))
-        ∙ ap (λ (s : List ℕ). s ++ drop (length s) out) front in
-        rw (is, replyTo, bufferAfter) (rw t (ap Accepted long-is, put))
-
-    pub printed-answer : Front before (printedFor file) text (d .length)
-    printed-answer = rw is (record { count = long-is; buffer = p .buffer ∙ ap (λ (o : Outcome). renderedIn o before) is })
-
--- the line that a refused file prints
-refusal : (number line : ℕ) → List ℕ
-refusal number line = spell (bytes "(refused # #)\n") (number ∷ line ∷ [])
-
-pub printed-refusal : (file before text : List ℕ) (d : Rendered) → Rendering (outcomeOf unitLimits file) before text d → (d .fault ≡ 0 → ⊥) → (after : List ℕ) (next : ℕ) →
-    WrittenIn 54 text 0 (spell (bytes "(refused # #)\n") (d .fault ∷ d .line ∷ [])) after next → Front before (printedFor file) after next
-unfolding refusal
-printed-refusal file before text d p bad after next w = go (outcomeOf unitLimits file) p
-  where
-    go : (o : Outcome) → Rendering o before text d → Front before (printedOf o) after next
-    go (accepted st) q = absurd (bad (ap (λ (r : Rendered). r .fault) (q .numbers)))
-    go (refused number line) q =
-        let same : refusal (d .fault) (d .line) ≡ refusal number line = λ i. refusal (q .numbers i .fault) (q .numbers i .line) in
-        record {
-          count = w .written .place ∙ zero-add (length (refusal (d .fault) (d .line))) ∙ ap length same;
-          buffer =
-              w .written .buffer
-              ∙ ap (λ (k : ℕ). refusal (d .fault) (d .line) ++ drop k text) (zero-add (length (refusal (d .fault) (d .line))))
-              ∙ ap (λ (t : List ℕ). t ++ drop (length t) text) same
-              ∙ ap (λ (l : List ℕ). refusal number line ++ drop (length (refusal number line)) l) (q .buffer);
-        }
-
--- ---- a reply as one number
+-- ---- how large a fault's number and line may be
 
 most-check : (k : ℕ) (passes : Bool) (fault next : ℕ) → fault ≤ k → next ≤ k → check passes fault next ≤ k
 most-check k true fault next h o = o
@@ -177,22 +83,148 @@ refused-small : (m : Limits) (file : List ℕ) (number line : ℕ) → RefusedFi
 refused-small m file number line (long h) = (lit≤ tt, omega arith)
 refused-small m file number line (lines h c) = let k = first-small m beforeHead file number line c in (k .0, omega (arith, k .1))
 
--- a reply's number is at most 13, and its value at most the buffer's length or the last line
-reply-small : (file : List ℕ) (room : ℕ) → (replyNumber (replyFor file room) ≤ 13) × (replyValue (replyFor file room) ≤ room + (unitLimits .bytes + 1))
-reply-small file room = go (outcomeOf unitLimits file) refl
+refused-at-most : (file : List ℕ) (number line : ℕ) → outcomeOf unitLimits file ≡ refused number line → (number ≤ 12) × (line ≤ unitLimits .bytes + 1)
+refused-at-most file number line e = refused-small unitLimits file number line (acceptance unitLimits file .refused-only-if number line e)
+
+-- a reply's number is at most 13
+number-small : (file : List ℕ) (room : ℕ) → replyNumber (replyFor file room) ≤ 13
+number-small file room = go (outcomeOf unitLimits file) refl
   where
-    fits : (n : ℕ) (b : Bool) → leb n room ≡ b →
-        (replyNumber (elim b as (λ _. Reply) [ true ↦ Accepted n | false ↦ Refused 13 0 ]) ≤ 13)
-        × (replyValue (elim b as (λ _. Reply) [ true ↦ Accepted n | false ↦ Refused 13 0 ]) ≤ room + (unitLimits .bytes + 1))
-    fits n true e = (lit≤ tt, omega (arith, leb-true n room e))
-    fits n false e = (lit≤ tt, omega arith)
+    fits : (n : ℕ) (b : Bool) → replyNumber (elim b as (λ _. Reply) [ true ↦ Accepted n | false ↦ Refused 13 0 ]) ≤ 13
+    fits n true = lit≤ tt
+    fits n false = lit≤ tt
 
-    go : (o : Outcome) → outcomeOf unitLimits file ≡ o → (replyNumber (replyTo o room) ≤ 13) × (replyValue (replyTo o room) ≤ room + (unitLimits .bytes + 1))
-    go (accepted st) e = fits (length (textOf (answerOf st))) (leb (length (textOf (answerOf st))) room) refl
-    go (refused number line) e =
-        let k = refused-small unitLimits file number line (acceptance unitLimits file .refused-only-if number line e) in
-        (omega (arith, k .0), omega (arith, k .1))
+    go : (o : Outcome) → outcomeOf unitLimits file ≡ o → replyNumber (replyTo o room) ≤ 13
+    go (accepted st) e = fits (length (textOf (answerOf st))) (leb (length (textOf (answerOf st))) room)
+    go (refused number line) e = omega (arith, refused-at-most file number line e .0)
 
--- so it is below 2^64 as one number, where the buffer is no longer than a slice can be
-pub code-small : (file : List ℕ) (room : ℕ) → room < 2 ^ 63 → codeOf (replyFor file room) < 2 ^ 64
-code-small file room h = let k = reply-small file room in omega (arith, k .0, k .1)
+-- so it is below 2^64 as one number
+pub code-small : (file before : List ℕ) (r : Reply) (after : List ℕ) → Guarantee file before r after → codeOf r < 2 ^ 64
+code-small file before r after g = omega (arith, g .decodes, ap replyNumber (g .reply), number-small file (length before))
+
+-- ---- what the reply and the buffer say of what is printed
+
+-- an answer that was accepted stands at the front of the buffer
+accepted-front : (t before : List ℕ) (b : Bool) → let r = elim b as (λ _. Reply) [ true ↦ Accepted (length t) | false ↦ Refused 13 0 ] in
+    replyNumber r ≡ 0 → take (replyValue r) (elim b as (λ _. List ℕ) [ true ↦ atFront t before | false ↦ before ]) ≡ t
+accepted-front t before true e = take-at t (drop (length t) before) (length t) refl
+accepted-front t before false e = absurd (omega (arith, e))
+
+printed-front : (file before : List ℕ) (o : Outcome) → outcomeOf unitLimits file ≡ o → replyNumber (replyTo o (length before)) ≡ 0 →
+    take (replyValue (replyTo o (length before))) (bufferAfter o before) ≡ printedOf o
+printed-front file before (accepted st) q e =
+    accepted-front (textOf (answerOf st)) before (leb (length (textOf (answerOf st))) (length before)) e
+printed-front file before (refused number line) q e = absurd (refused-positive file number line q e)
+
+-- what each return of `answer` has to say
+pub record Returned (file out : List ℕ) (r : Reply) (after : List ℕ) : Type 0 where
+  pub reply : r ≡ replyFor file (length out)
+  pub buffer : after ≡ bufferFor file out
+  pub decodes : replyValue r < 100000
+  pub room-enough : answerRoom ≤ length out → replyNumber r ≡ 13 → ⊥
+
+pub guaranteed : (file before : List ℕ) (r : Reply) (after : List ℕ) → Returned file before r after → Guarantee file before r after
+guaranteed file before r after k =
+    record {
+      reply = k .reply;
+      buffer = k .buffer;
+      printed = λ e.
+          rw (k .reply, k .buffer) (printed-front file before (outcomeOf unitLimits file) refl (sym (ap replyNumber (k .reply)) ∙ e));
+      decodes = k .decodes;
+      room-enough = k .room-enough;
+      promised = promised file;
+    }
+
+-- the same of the reply by its definition
+pub guaranteed-reply : (file before : List ℕ) (r : Reply) (after : List ℕ) → Guarantee file before r after →
+    Guarantee file before (replyFor file (length before)) after
+guaranteed-reply file before r after g = subst (λ (q : Reply). Guarantee file before q after) (g .reply) g
+
+pub reported : {file before : List ℕ} {n : ℕ} {after : List ℕ} → Front before (printedFor file) after n → Reported file before n after
+reported {file = file} f = record { printed = f; promised = promised file }
+
+-- ---- the three ways in which `answer` returns
+
+module _ (file before text : List ℕ) (d : Rendered) (p : Rendering (outcomeOf unitLimits file) before text d) where
+  -- where rendering found no fault the file is accepted, and its text stands at the front
+  found : d .fault ≡ 0 → (st : Standing) × (outcomeOf unitLimits file ≡ accepted st)
+  found good = found-accepted file (λ o. asRendered o .fault) (λ number line. refl) (sym (ap (λ (r : Rendered). r .fault) (p .numbers)) ∙ good)
+
+  pub answer-refused : (d .fault ≡ 0 → ⊥) → (out : List ℕ) → Returned file out (Refused (d .fault) (d .line)) out
+  answer-refused bad out = go (outcomeOf unitLimits file) refl (p .numbers)
+    where
+      go : (o : Outcome) → outcomeOf unitLimits file ≡ o → d ≡ asRendered o → Returned file out (Refused (d .fault) (d .line)) out
+      go (accepted st) q e = absurd (bad (ap (λ (r : Rendered). r .fault) e))
+      go (refused number line) q e =
+          let most = refused-at-most file number line q in
+          record {
+            reply = (λ i. Refused (e i .fault) (e i .line)) ∙ sym (ap (λ (o : Outcome). replyTo o (length out)) q);
+            buffer = sym (ap (λ (o : Outcome). bufferAfter o out) q);
+            decodes = omega (arith, most .1, ap (λ (r : Rendered). r .line) e);
+            room-enough = λ h z. omega (arith, z, most .0, ap (λ (r : Rendered). r .fault) e);
+          }
+
+  module _ (good : d .fault ≡ 0) (out : List ℕ) where
+    st : Standing
+    st = found good .0
+
+    is : outcomeOf unitLimits file ≡ accepted st
+    unfolding st
+    is = found good .1
+
+    long-is : d .length ≡ length (textOf (answerOf st))
+    long-is = ap (λ (r : Rendered). r .length) (p .numbers ∙ ap asRendered is)
+
+    pub answer-short : length out < d .length → Returned file out (Refused 13 0) out
+    answer-short h =
+        let t : leb (length (textOf (answerOf st))) (length out) ≡ false = lt-leb (length (textOf (answerOf st))) (length out) (omega (arith, long-is)) in
+        record {
+          reply = rw (is, replyTo) (rw t);
+          buffer = rw (is, bufferAfter) (rw t);
+          decodes = lit< tt;
+          room-enough = λ k z. omega (arith, h, k, p .short);
+        }
+
+    front : take (d .length) text ≡ textOf (answerOf st)
+    front =
+        ap (λ (s : List ℕ). take (d .length) s) (p .buffer ∙ ap (λ (o : Outcome). renderedIn o before) is)
+        ∙ take-at (textOf (answerOf st)) (drop (length (textOf (answerOf st))) before) (d .length) (sym long-is)
+
+    pub answer-fits : {room : ℕ} (after : List ℕ) (next : ℕ) → d .length ≤ length out → WrittenIn room out 0 (take (d .length) text) after next →
+        Returned file out (Accepted (d .length)) after
+    answer-fits after next h w =
+        let t : leb (length (textOf (answerOf st))) (length out) ≡ true = le-leb (length (textOf (answerOf st))) (length out) (omega (arith, long-is)) in
+        let put : after ≡ textOf (answerOf st) ++ drop (length (textOf (answerOf st))) out =
+        w .written .buffer ∙ ap (λ (k : ℕ). take (d .length) text ++ drop k out) (zero-add (length (take (d .length) text)))
+        ∙ ap (λ (s : List ℕ). s ++ drop (length s) out) front in
+        record {
+          reply = rw (is, replyTo) (rw t (ap Accepted long-is));
+          buffer = rw (is, bufferAfter) (rw t put);
+          decodes = omega (arith, p .short);
+          room-enough = λ k z. omega (arith, z);
+        }
+
+    pub printed-answer : Front before (printedFor file) text (d .length)
+    printed-answer = rw is (record { count = long-is; buffer = p .buffer ∙ ap (λ (o : Outcome). renderedIn o before) is })
+
+-- the line that a refused file prints
+refusal : (number line : ℕ) → List ℕ
+refusal number line = spell (bytes "(refused # #)\n") (number ∷ line ∷ [])
+
+pub printed-refusal : (file before text : List ℕ) (d : Rendered) → Rendering (outcomeOf unitLimits file) before text d → (d .fault ≡ 0 → ⊥) → (after : List ℕ) (next : ℕ) →
+    WrittenIn 54 text 0 (spell (bytes "(refused # #)\n") (d .fault ∷ d .line ∷ [])) after next → Front before (printedFor file) after next
+unfolding refusal
+printed-refusal file before text d p bad after next w = go (outcomeOf unitLimits file) p
+  where
+    go : (o : Outcome) → Rendering o before text d → Front before (printedOf o) after next
+    go (accepted st) q = absurd (bad (ap (λ (r : Rendered). r .fault) (q .numbers)))
+    go (refused number line) q =
+        let same : refusal (d .fault) (d .line) ≡ refusal number line = λ i. refusal (q .numbers i .fault) (q .numbers i .line) in
+        record {
+          count = w .written .place ∙ zero-add (length (refusal (d .fault) (d .line))) ∙ ap length same;
+          buffer =
+              w .written .buffer
+              ∙ ap (λ (k : ℕ). refusal (d .fault) (d .line) ++ drop k text) (zero-add (length (refusal (d .fault) (d .line))))
+              ∙ ap (λ (t : List ℕ). t ++ drop (length t) text) same
+              ∙ ap (λ (l : List ℕ). refusal number line ++ drop (length (refusal number line)) l) (q .buffer);
+        }

@@ -11,12 +11,12 @@ use Rattle.extremes.specs.declared.Extremes.{Extremes}
 use Rattle.extremes.specs.Exact.{exactRun}
 use Rattle.zoom.specs.declared.Quick.{Quick}
 use Rattle.zoom.specs.Run.{quickRun, density}
-use Rattle.zoom.specs.Limits.{Measurable}
+use Rattle.zoom.specs.Sizes.{Measurable}
 use Rattle.zoom.proofs.Bracket.{quick-run-small}
 use Rattle.fill.specs.declared.Plan.{Plan}
 use Rattle.fill.specs.declared.Verdict.{Verdict}
 use Rattle.fill.specs.Judge.{verdictOf}
-use Rattle.fill.specs.Limits.{Planned}
+use Rattle.fill.specs.Sizes.{Planned}
 use Rattle.jobfile.specs.declared.Head.{Head}
 use Rattle.jobfile.specs.Forms.{tileSide, tilesAcross}
 use Rattle.unit.specs.declared.run.Answer.{Answer}

@@ -10,7 +10,7 @@ use Rattle.geometry.specs.declared.Spot.{Spot}
 use Rattle.extremes.specs.declared.Extremes.{Extremes}
 use Rattle.extremes.specs.Exact.{windowArea, Position}
 use Rattle.zoom.specs.declared.Quick.{Quick}
-use Rattle.zoom.specs.Run.{levelStep, endNumber}
+use Rattle.zoom.specs.Run.{lastLevel, levelStep, endNumber}
 use Rattle.fill.specs.declared.Bound.{Bound}
 use Rattle.fill.specs.declared.Verdict.{Verdict}
 use Rattle.fill.specs.Judge.{boundNumber, verdictNumbers}
@@ -73,14 +73,16 @@ pub record EndsWith (q : Quick) (j : ℕ) : Type 0 where
   pub not-exact : endNumber (q .end) ≡ 2 → ⊥
 
 -- the quick run, beside the exact run's M. Its floor F is the area of the window it names, its ceiling is C, and F ≤ M ≤ C; "met" for
--- accuracy E bounds the midpoint, 1000 × |F + C − 2M| ≤ 2 × E × M; no more levels were done than are allowed; F is the largest standard area
+-- accuracy E bounds the midpoint, 1000 × |F + C − 2M| ≤ 2 × E × M; at least one level was done, and no more than are allowed or than there are; F is the largest standard area
 -- of the level that the run ended with, at one of its starts, and after "exact" F, C and M are one number
 pub record QuickPromise (st : Standing) (q : Quick) (m : ℕ) : Type 0 where
   pub floor : RealWindow st (q .last .named)
   pub floor-below : q .last .named .area ≤ m
   pub ceiling-above : m ≤ q .last .limit
   pub met : endNumber (q .end) ≡ 0 → 1000 * distance (q .last .named .area + q .last .limit) (2 * m) ≤ 2 * st .head .accuracy * m
+  pub some-level : 1 ≤ q .done
   pub levels-done : q .done ≤ st .head .levels
+  pub level-exists : (j : ℕ) → EndsWith q j → j ≤ lastLevel (st .head .window)
   pub floor-start : (j : ℕ) → EndsWith q j → StartOf st j (q .last .named .x) (q .last .named .y)
   pub floor-largest : (j : ℕ) → EndsWith q j → (x y : ℕ) → StartOf st j x y → areaAt st x y ≤ q .last .named .area
   pub exact-ends : endNumber (q .end) ≡ 2 → (q .last .named .area ≡ m) × (q .last .limit ≡ m)

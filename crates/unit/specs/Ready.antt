@@ -5,7 +5,8 @@ use mathlib.Core.List.{List}
 use lib.ListN.{length, take}
 use Rattle.geometry.specs.Sizes.{widest}
 use Rattle.geometry.specs.Layout.{Drawn, rectsOf}
-use Rattle.fill.specs.Limits.{Planned}
+use Rattle.zoom.specs.Sizes.{mostAccuracy}
+use Rattle.fill.specs.Sizes.{Planned}
 use Rattle.jobfile.specs.declared.Head.{Head}
 use Rattle.jobfile.specs.declared.Job.{Job}
 use Rattle.jobfile.specs.declared.Turn.the-variants.{Done}
@@ -25,7 +26,7 @@ pub record Ready (h : Head) (rects amounts : List ℕ) : Type 0 where
   pub some-window : 1 ≤ h .window
   pub window-fits : h .window ≤ h .size
   pub small : h .size ≤ widest
-  pub accurate : h .accuracy ≤ 1000
+  pub accurate : h .accuracy ≤ mostAccuracy
   pub planned : Planned rects amounts (planOf h)
 
 -- the tables of a job that was read, without the zeros behind them, and what stands at its end
@@ -42,6 +43,6 @@ jobStanding j = standingOf (j .head) (jobRects j) (jobAmounts j)
 pub record Readable (j : Job) : Type 0 where
   pub shapes : j .count ≤ unitLimits .shapes
   pub room : length (j .rects) ≡ shapesRoom
-  pub cells : length (j .amounts) ≡ amountsRoom
+  pub amounts-room : length (j .amounts) ≡ amountsRoom
   pub tiles : tilesAcross (j .head) ≤ unitLimits .tiles
   pub ready : Ready (j .head) (jobRects j) (jobAmounts j)

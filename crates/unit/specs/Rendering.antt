@@ -1,37 +1,13 @@
--- What rendering a file leaves in a buffer, and the room that it takes there. A buyer need not read it.
-use Prim.Native.Nat.{ℕ, _+_, _≤_}
+-- What rendering a file leaves in a buffer. A buyer need not read it.
+use Prim.Native.Nat.{ℕ, _≤_}
 use mathlib.Core.Path.{_≡_}
 use mathlib.Core.List.{List}
 use lib.ListN.{length}
 use Rattle.buffers.specs.Written.{Written, atFront}
 use Rattle.jobfile.specs.File.{Outcome, refused, accepted}
 use Rattle.unit.specs.declared.render.Rendered.{Rendered}
+use Rattle.unit.specs.Room.{answerRoom}
 use Rattle.unit.specs.Answering.{answerOf, textOf}
-
--- the room that a part of the answer is given, with 20 digits to each number, the most that 64 bits take
-abbrev pub exactRoom : ℕ
-exactRoom = 160
-
-abbrev pub endRoom : ℕ
-endRoom = 16
-
-abbrev pub bracketRoom : ℕ
-bracketRoom = 176
-
-abbrev pub densityRoom : ℕ
-densityRoom = 40
-
-abbrev pub boundRoom : ℕ
-boundRoom = 8
-
-abbrev pub startRoom : ℕ
-startRoom = boundRoom + 48
-
-abbrev pub verdictRoom : ℕ
-verdictRoom = startRoom + 16
-
-abbrev pub answerRoom : ℕ
-answerRoom = exactRoom + (endRoom + bracketRoom) + densityRoom + verdictRoom
 
 -- a text was written at a place, in at most `room` bytes
 pub record WrittenIn (room : ℕ) (before : List ℕ) (at : ℕ) (text after : List ℕ) (next : ℕ) : Type 0 where

@@ -8,11 +8,12 @@ ghost use Rattle.jobfile.specs.Limits.{unitLimits};
 ghost use Rattle.jobfile.specs.File.{outcomeOf};
 ghost use Rattle.unit.specs.Answering.{answerOf, textOf};
 ghost use Rattle.unit.specs.Ready.{jobStanding, Readable};
-ghost use Rattle.unit.specs.Rendering.{answerRoom, WrittenIn, Rendering};
+ghost use Rattle.unit.specs.Room.{answerRoom};
+ghost use Rattle.unit.specs.Rendering.{WrittenIn, Rendering};
 
 // What rendering a file gives: number and line of its fault, or the length of
 // its answer.
-pub struct Rendered {
+pub(crate) struct Rendered {
     pub fault: u64,
     pub line: u64,
     pub length: usize,

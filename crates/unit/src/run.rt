@@ -11,10 +11,10 @@ ghost use Rattle.unit.specs.Ready.{Ready, standingOf};
 
 // What an accepted job is answered, before it is written as text.
 pub struct Answer {
-    pub exact: Extremes,
-    pub quick: Quick,
-    pub density: u64,
-    pub verdict: Verdict,
+    pub exact: Extremes, // the exact run
+    pub quick: Quick, // the quick run for the greatest window
+    pub density: u64, // of the quick run's bracket
+    pub verdict: Verdict, // on the fill
 }
 
 // The answer to a job. The exact run's window is handed to the quick run, so
@@ -26,7 +26,7 @@ pub(crate) fn run(head: Head, rects: &[u64], amounts: &[u64]) -> Answer
     let size = head.size;
     let window = head.window;
     let side = jobfile::tile_side(head);
-    let tiles = jobfile::tiles_across(head);
+    let across = jobfile::tiles_across(head);
     let exact = extremes::exact_run(rects, size, window);
     let greatest = exact.greatest;
     let asked = Asked {
@@ -38,7 +38,7 @@ pub(crate) fn run(head: Head, rects: &[u64], amounts: &[u64]) -> Answer
     let quick = zoom::quick_run(rects, asked, greatest);
     let density = zoom::density(window, quick.last.named.area, quick.last.limit);
     let plan = Plan {
-        across: tiles,
+        across,
         cut: head.cut,
         side,
         window,

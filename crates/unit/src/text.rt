@@ -11,13 +11,14 @@ ghost use mathlib.Core.List.{_++_};
 ghost use lib.ListN.{length};
 ghost use Rattle.spelling.specs.Pattern.{spell};
 ghost use Rattle.unit.specs.Answering.{exactLine, zoomHead, levelPart, zoomLine, densityLine, boundWord, failingStart, verdictLine, textOf};
-ghost use Rattle.unit.specs.Rendering.{exactRoom, endRoom, bracketRoom, densityRoom, boundRoom, startRoom, verdictRoom, answerRoom, WrittenIn};
+ghost use Rattle.unit.specs.Room.{numberRoom, exactRoom, endRoom, bracketRoom, densityRoom, boundRoom, startRoom, verdictRoom, answerRoom};
+ghost use Rattle.unit.specs.Rendering.{WrittenIn};
 
-// Writes a pattern's text where there is room for 20 digits to a number, the
-// most that 64 bits take.
+// Writes a pattern's text where there is room for the most digits that a number
+// takes.
 pub(crate) fn write_line(pattern: &[u8], values: &[u64], out: &mut [u8], at: usize) -> usize
-    requires { ⌜ at + (length (now pattern) + 20 * length (now values)) ≤ length (now out) ⌝ }
-    ensures { λ r. ⌜ WrittenIn (length (now (pattern .entry)) + 20 * length (now (values .entry))) (now (out .entry)) at (spell (now (pattern .entry)) (now (values .entry))) (now (out .exit)) r ⌝ }
+    requires { ⌜ at + (length (now pattern) + numberRoom * length (now values)) ≤ length (now out) ⌝ }
+    ensures { λ r. ⌜ WrittenIn (length (now (pattern .entry)) + numberRoom * length (now (values .entry))) (now (out .entry)) at (spell (now (pattern .entry)) (now (values .entry))) (now (out .exit)) r ⌝ }
 {
     spelling::write_as(pattern, values, out, at)
 }

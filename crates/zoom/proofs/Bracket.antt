@@ -29,7 +29,7 @@ use Rattle.zoom.specs.declared.Level.{Level}
 use Rattle.zoom.specs.declared.Quick.{Quick}
 use Rattle.zoom.specs.Run.{lastLevel, levelStep, startsOn, bloated, shrunk, farArea, bestStart, levelOf, levelAt, lowEnd, highEnd, isMet, afterLevel, exactEnd, runFrom, quickRun}
 use Rattle.geometry.specs.Sizes.{widest, largest}
-use Rattle.zoom.specs.Limits.{LevelSmall}
+use Rattle.zoom.specs.Sizes.{LevelSmall}
 use Rattle.zoom.specs.Grid.{AtStart}
 use Rattle.zoom.proofs.Folds.{no-better-trans, replaced-stays, replaced-area, rows-are, rows-see, rows-replace}
 use Rattle.zoom.proofs.Steps.{step-halves, step-positive}
@@ -238,21 +238,21 @@ module _ (s : Sense) (rs : List Rect) (n w : ℕ) (p : 1 ≤ w) where
 -- ---- the run
 
 -- a run's answer: what holds of every level holds of its last one, and "met" means that the level is met
-record Ended (P : Level → Type 0) (s : Sense) (e : ℕ) (q : Quick) : Type 0 where
+record RunHolds (P : Level → Type 0) (s : Sense) (e : ℕ) (q : Quick) : Type 0 where
   holds : P (q .last)
   met : q .end ≡ Met → isMet s e (q .last) ≡ true
 
-after-level : (P : Level → Type 0) (s : Sense) (e v j : ℕ) (this : Level) (next : Quick) → P this → Ended P s e next → Ended P s e (afterLevel s e v j this next)
+after-level : (P : Level → Type 0) (s : Sense) (e v j : ℕ) (this : Level) (next : Quick) → P this → RunHolds P s e next → RunHolds P s e (afterLevel s e v j this next)
 after-level P s e v j this next b p = go (isMet s e this) refl (leb v (suc j)) refl
   where
-    go : (m : Bool) → isMet s e this ≡ m → (d : Bool) → leb v (suc j) ≡ d → Ended P s e (afterLevel s e v j this next)
+    go : (m : Bool) → isMet s e this ≡ m → (d : Bool) → leb v (suc j) ≡ d → RunHolds P s e (afterLevel s e v j this next)
     go true h d k = rw (h, afterLevel) (record { holds = b; met = λ _. h })
     go false h true k = rw (h, k, afterLevel) (record { holds = b; met = λ e. absurd (let z : _≡_ {A = ℕ} 0 1 = cc in omega arith) })
     go false h false k = rw (h, k, afterLevel) p
 
 module _ (P : Level → Type 0) (s : Sense) (rs : List Rect) (n w e v : ℕ) (each : (j : ℕ) → j ≤ lastLevel w → P (levelAt s rs n w j))
     (exact : (j : ℕ) → j ≤ lastLevel w → P (exactEnd s j (levelAt s rs n w j .named) (extreme s rs n w) .last)) where
-  run-ends : (left j : ℕ) → j + left ≡ lastLevel w → Ended P s e (runFrom s rs n w e v left j)
+  run-ends : (left j : ℕ) → j + left ≡ lastLevel w → RunHolds P s e (runFrom s rs n w e v left j)
   unfolding runFrom
   run-ends zero j h =
       after-level P s e v j (levelAt s rs n w j) (exactEnd s j (levelAt s rs n w j .named) (extreme s rs n w)) (each j (omega arith))
@@ -260,7 +260,7 @@ module _ (P : Level → Type 0) (s : Sense) (rs : List Rect) (n w e v : ℕ) (ea
   run-ends (suc left) j h =
       after-level P s e v j (levelAt s rs n w j) (runFrom s rs n w e v left (suc j)) (each j (omega arith)) (run-ends left (suc j) (omega arith))
 
-  quick-run-ends : Ended P s e (quickRun s rs n w e v)
+  quick-run-ends : RunHolds P s e (quickRun s rs n w e v)
   unfolding quickRun
   quick-run-ends = run-ends (lastLevel w) 0 (omega arith)
 
@@ -370,9 +370,9 @@ empty-layout s n w e v =
 box-small : (rs : List Rect) (b : Rect) → b .x2 - b .x1 ≤ widest → b .y2 - b .y1 ≤ widest → coveredArea rs b ≤ largest
 box-small rs b h k = omega (arith, area-small rs b, small-product (b .x2 - b .x1) (b .y2 - b .y1) h k)
 
-far-small : (s : Sense) (rs : List Rect) (n w t x y : ℕ) → n ≤ widest → w ≤ n → farArea s rs n w t x y ≤ largest
-far-small Greatest rs n w t x y h k = box-small rs (bloated n w t x y) (omega arith) (omega arith)
-far-small Least rs n w t x y h k = box-small rs (shrunk w t x y) (omega arith) (omega arith)
+far-area-small : (s : Sense) (rs : List Rect) (n w t x y : ℕ) → n ≤ widest → w ≤ n → farArea s rs n w t x y ≤ largest
+far-area-small Greatest rs n w t x y h k = box-small rs (bloated n w t x y) (omega arith) (omega arith)
+far-area-small Least rs n w t x y h k = box-small rs (shrunk w t x y) (omega arith) (omega arith)
 
 placed-small : (rs : List Rect) (n w : ℕ) (b : Spot) → n ≤ widest → w ≤ n → Placed rs n w b → b .area ≤ largest
 placed-small rs n w b h k p = rw (p .area) (box-small rs (windowBox w (b .x) (b .y)) (omega arith) (omega arith))
@@ -383,7 +383,7 @@ level-small s rs n w t b h k p a =
     record {
       named = placed-small rs n w (levelOf s rs n w t b .named) h k (start-placed rs n w t (levelOf s rs n w t b .named) p (level-at-start s rs n w t b a));
       limit = rows-are s (farArea s rs n w t) t (startsOn n w t) (startsOn n w t) (spotAt (farArea s rs n w t) 0 0) (λ (c : Spot). c .area ≤ largest)
-          (far-small s rs n w t 0 0 h k) (λ i j p q. far-small s rs n w t (i * t) (j * t) h k);
+          (far-area-small s rs n w t 0 0 h k) (λ i j p q. far-area-small s rs n w t (i * t) (j * t) h k);
     }
 
 pub quick-run-small : (s : Sense) (rs : List Rect) (n w e v : ℕ) → 1 ≤ w → w ≤ n → n ≤ widest → LevelSmall (quickRun s rs n w e v .last)

@@ -2,7 +2,7 @@ pub mod Folds
 pub mod Steps
 pub mod Starts
 pub mod Bracket
-pub mod LastLevel
+pub mod RunEnd
 pub mod PassOver
 pub mod Numbers
 pub mod Passes

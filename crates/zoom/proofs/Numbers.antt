@@ -7,7 +7,7 @@ use Rattle.geometry.specs.declared.Sense.the-variants.{Greatest, Least}
 use Rattle.zoom.specs.declared.Level.{Level}
 use Rattle.zoom.specs.Run.{lowEnd, highEnd}
 use Rattle.geometry.specs.Sizes.{widest, largest}
-use Rattle.zoom.specs.Limits.{LevelSmall}
+use Rattle.zoom.specs.Sizes.{mostAccuracy, LevelSmall}
 
 pub record EndsSmall (s : Sense) (v : Level) : Type 0 where
   pub low : lowEnd s v ≤ largest
@@ -17,7 +17,7 @@ pub ends-small : (s : Sense) (v : Level) → LevelSmall v → EndsSmall s v
 ends-small Greatest v z = record { low = z .named; high = z .limit }
 ends-small Least v z = record { low = z .limit; high = z .named }
 
-pub scaled-small : (e low : ℕ) → e ≤ 1000 → low ≤ largest → (1000 + 2 * e) * low ≤ 3000 * largest
+pub scaled-small : (e low : ℕ) → e ≤ mostAccuracy → low ≤ largest → (1000 + 2 * e) * low ≤ 3000 * largest
 scaled-small e low h k = mul-le-mul {n₁ = 1000 + 2 * e} {n₂ = 3000} (omega arith) k
 
 pub area-of-window : (w : ℕ) → 1 ≤ w → w ≤ widest → (1 ≤ 2 * w * w) × (2 * w * w ≤ 2 * largest)

@@ -17,7 +17,7 @@ use Rattle.geometry.proofs.Overlaps.{one-if-small}
 use Rattle.zoom.specs.declared.Grid.{Grid}
 use Rattle.zoom.specs.declared.Level.{Level}
 use Rattle.zoom.specs.Run.{farArea}
-use Rattle.zoom.specs.Limits.{startsRoom, levelRoom, keptRoom}
+use Rattle.zoom.specs.Sizes.{startsRoom, levelRoom, keptRoom}
 use Rattle.zoom.specs.Grid.{Sized}
 use Rattle.zoom.specs.Passing.{flagAbove, Spares, HarmlessRow, flagOf, flagsInRow, flagsInRows}
 use Rattle.zoom.specs.Weighing.{betterArea, weighed, farInRow, farInRows, Weighable}

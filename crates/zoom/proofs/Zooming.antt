@@ -20,11 +20,11 @@ use Rattle.zoom.specs.declared.Level.{Level}
 use Rattle.zoom.specs.declared.End.the-variants.{Met, Stopped, Exact}
 use Rattle.zoom.specs.declared.Quick.{Quick}
 use Rattle.zoom.specs.declared.Next.{Next}
-use Rattle.zoom.specs.declared.Next.the-variants.{Over, Deeper}
+use Rattle.zoom.specs.declared.Next.the-variants.{Ended, Deeper}
 use Rattle.zoom.specs.declared.Grid.{Grid}
 use Rattle.zoom.specs.Run.{lastLevel, levelStep, startsOn, farArea, levelOf, levelAt, isMet, exactEnd, runFrom, quickRun}
 use Rattle.geometry.specs.Sizes.{widest}
-use Rattle.zoom.specs.Limits.{flagsRoom, startsRoom, LevelSmall}
+use Rattle.zoom.specs.Sizes.{flagsRoom, startsRoom, LevelSmall}
 use Rattle.zoom.specs.Grid.{Sized, AtStart}
 use Rattle.zoom.specs.Passing.{Harmless, flagsInRows}
 use Rattle.zoom.specs.Weighing.{farInRows}
@@ -102,13 +102,13 @@ level-done s rs g before best this new new′ z a e r =
 abbrev endTests : (met late last : Bool) (first second third : Quick) → Next
 endTests met late last first second third =
     elim met [
-      | true ↦ Over first
-      | false ↦ elim late [ true ↦ Over second | false ↦ elim last [ true ↦ Over third | false ↦ Deeper ] ]
+      | true ↦ Ended first
+      | false ↦ elim late [ true ↦ Ended second | false ↦ elim last [ true ↦ Ended third | false ↦ Deeper ] ]
     ]
 
 -- they are those of the definition, where the last level is the one with no level left
 over-by-tests : (met late last : Bool) (first second third next q : Quick) → (last ≡ true → next ≡ third) →
-    endTests met late last first second third ≡ Over q → elim met [ true ↦ first | false ↦ elim late [ true ↦ second | false ↦ next ] ] ≡ q
+    endTests met late last first second third ≡ Ended q → elim met [ true ↦ first | false ↦ elim late [ true ↦ second | false ↦ next ] ] ≡ q
 over-by-tests true late last first second third next q h e = cc
 over-by-tests false true last first second third next q h e = cc
 over-by-tests false false true first second third next q h e = let g : next ≡ third = h refl in cc
@@ -126,7 +126,7 @@ deeper-by-tests false false true first second third next e = record { more = cc;
 deeper-by-tests false false false first second third next e = record { more = refl; same = refl }
 
 run-over : (s : Sense) (rs : List Rect) (n w e v z left j : ℕ) (q : Quick) → j + left ≡ z →
-    nextAfter s e v z j (levelAt s rs n w j) (extreme s rs n w) ≡ Over q → runFrom s rs n w e v left j ≡ q
+    nextAfter s e v z j (levelAt s rs n w j) (extreme s rs n w) ≡ Ended q → runFrom s rs n w e v left j ≡ q
 unfolding runFrom
 run-over s rs n w e v z zero j q h k =
     let this : Level = levelAt s rs n w j in
@@ -161,18 +161,18 @@ module _ (s : Sense) (e v z j : ℕ) (this : Level) (m : Spot) (met : Bool) (tes
       ≡ nextAfter s e v z j this m
   by-tests a b c h k l = rw (sym h ∙ tested, sym k, sym l)
 
-  pub ends-met : met ≡ true → Over (record { end = Met; done = j + 1; last = this }) ≡ nextAfter s e v z j this m
-  ends-met h = ap (λ (k : ℕ). Over (record { end = Met; done = k; last = this })) (add-one j) ∙ by-tests true (leb v (suc j)) (leb z j) h refl refl
+  pub ends-met : met ≡ true → Ended (record { end = Met; done = j + 1; last = this }) ≡ nextAfter s e v z j this m
+  ends-met h = ap (λ (k : ℕ). Ended (record { end = Met; done = k; last = this })) (add-one j) ∙ by-tests true (leb v (suc j)) (leb z j) h refl refl
 
-  pub ends-stopped : met ≡ false → v ≤ j + 1 → Over (record { end = Stopped; done = j + 1; last = this }) ≡ nextAfter s e v z j this m
+  pub ends-stopped : met ≡ false → v ≤ j + 1 → Ended (record { end = Stopped; done = j + 1; last = this }) ≡ nextAfter s e v z j this m
   ends-stopped h k =
-      ap (λ (k : ℕ). Over (record { end = Stopped; done = k; last = this })) (add-one j)
+      ap (λ (k : ℕ). Ended (record { end = Stopped; done = k; last = this })) (add-one j)
       ∙ by-tests false true (leb z j) h (le-leb v (suc j) (omega arith)) refl
 
   pub ends-exact : (best : Spot) → met ≡ false → j + 1 < v → z ≤ j → best ≡ replaced s (this .named) m →
-      Over (record { end = Exact; done = j + 2; last = record { named = best; limit = m .area; kept = 0 } }) ≡ nextAfter s e v z j this m
+      Ended (record { end = Exact; done = j + 2; last = record { named = best; limit = m .area; kept = 0 } }) ≡ nextAfter s e v z j this m
   ends-exact best h k l r =
-      ap₂ (λ (k : ℕ) (b : Spot). Over (record { end = Exact; done = k; last = record { named = b; limit = m .area; kept = 0 } })) (add-two j) r
+      ap₂ (λ (k : ℕ) (b : Spot). Ended (record { end = Exact; done = k; last = record { named = b; limit = m .area; kept = 0 } })) (add-two j) r
       ∙ by-tests false false true h (lt-leb v (suc j) (omega arith)) (le-leb z j l)
 
   pub ends-deeper : met ≡ false → j + 1 < v → j < z → Deeper ≡ nextAfter s e v z j this m
@@ -238,7 +238,7 @@ module _ (s : Sense) (rs : List Rect) (n w e v z : ℕ) (old new : List ℕ) (be
   run-next this m after h k l = ap₂ (λ (u : Level) (x : Spot). nextAfter s e v z j u x) (sym (run-level this h)) (sym k) ∙ sym l
 
   pub run-answers : (this : Level) (m : Spot) (after : Next) (q : Quick) → this ≡ levelOf s rs n w t before → m ≡ extreme s rs n w →
-      after ≡ nextAfter s e v z j this m → after ≡ Over q → q ≡ quickRun s rs n w e v
+      after ≡ nextAfter s e v z j this m → after ≡ Ended q → q ≡ quickRun s rs n w e v
   run-answers this m after q h k l o = sym (run-over s rs n w e v z (z - j) j q left-is (run-next this m after h k l ∙ o)) ∙ so-far .whole
 
   pub run-goes-on : (this : Level) (m : Spot) (after : Next) (old′ new′ : List ℕ) (stride′ : ℕ) → n ≤ widest →

@@ -9,7 +9,7 @@ use Rattle.extremes.specs.Exact.{windowArea}
 use Rattle.zoom.specs.declared.Grid.{Grid}
 use Rattle.zoom.specs.Run.{startsOn}
 use Rattle.geometry.specs.Sizes.{widest}
-use Rattle.zoom.specs.Limits.{startsRoom}
+use Rattle.zoom.specs.Sizes.{startsRoom}
 
 -- what counting the starts on an axis asks
 pub record Countable (n w t : ℕ) : Type 0 where

@@ -1,5 +1,5 @@
 pub mod Run
-pub mod Limits
+pub mod Sizes
 pub mod Grid
 pub mod Strips
 pub mod Passing

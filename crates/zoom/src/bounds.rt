@@ -6,7 +6,7 @@ ghost use mathlib.Core.Path.{_≡_};
 ghost use lib.ListN.{set};
 ghost use Rattle.geometry.specs.Layout.{rectsOf};
 ghost use Rattle.zoom.specs.Run.{farArea};
-ghost use Rattle.zoom.specs.Limits.{levelRoom, keptRoom};
+ghost use Rattle.zoom.specs.Sizes.{levelRoom, keptRoom};
 ghost use Rattle.zoom.specs.Strips.{alongStrip};
 ghost use Rattle.zoom.specs.Passing.{flagOf, flagsInRow, flagsInRows, Passable, RowPassable, StripPassable};
 ghost use Rattle.zoom.specs.Weighing.{betterArea, weighed, farInRow, farInRows, Weighable};

@@ -3,7 +3,7 @@ ghost use Prim.Native.Nat.{_≤_};
 ghost use mathlib.Core.Path.{_≡_};
 ghost use Rattle.geometry.specs.Layout.{rectsOf};
 ghost use Rattle.zoom.specs.Run.{lastLevel, startsOn, farArea, levelOf, lowEnd, highEnd, isMet, quickRun};
-ghost use Rattle.zoom.specs.Limits.{Runnable, Testable};
+ghost use Rattle.zoom.specs.Sizes.{Runnable, Testable};
 ghost use Rattle.zoom.specs.Grid.{Countable, AtStart};
 ghost use Rattle.zoom.specs.Passing.{Passable, flagsInRows};
 ghost use Rattle.zoom.specs.Next.{nextAfter};
@@ -82,14 +82,14 @@ fn next_after(sense: Sense, asked: Asked, z: u64, j: u64, this: Level, m: Spot) 
     ensures { λ r. ⌜ r ≡ nextAfter sense (asked .accuracy) (asked .levels) z j this m ⌝ }
 {
     if is_met(sense, asked.accuracy, this) {
-        return Next::Over(Quick {
+        return Next::Ended(Quick {
             end: End::Met,
             done: j + 1,
             last: this,
         });
     }
     if asked.levels <= j + 1 {
-        return Next::Over(Quick {
+        return Next::Ended(Quick {
             end: End::Stopped,
             done: j + 1,
             last: this,
@@ -102,7 +102,7 @@ fn next_after(sense: Sense, asked: Asked, z: u64, j: u64, this: Level, m: Spot) 
             limit: m.area,
             kept: 0,
         };
-        return Next::Over(Quick {
+        return Next::Ended(Quick {
             end: End::Exact,
             done: j + 2,
             last,
@@ -138,7 +138,7 @@ pub(crate) fn run(sense: Sense, rects: &[u64], asked: Asked, m: Spot) -> Quick
         };
         let this = level(rects, &old, &mut new, g, before);
         let next = next_after(sense, asked, z, j, this, m);
-        if let Next::Over(answer) = next {
+        if let Next::Ended(answer) = next {
             return answer;
         }
         bytes::copy(&new, &mut old);

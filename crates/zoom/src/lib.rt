@@ -10,7 +10,7 @@ ghost use mathlib.Core.Path.{_≡_};
 ghost use Rattle.geometry.specs.declared.Sense.the-variants.{Greatest};
 ghost use Rattle.geometry.specs.Layout.{rectsOf};
 ghost use Rattle.zoom.specs.Run.{quickRun, density};
-ghost use Rattle.zoom.specs.Limits.{Runnable, Measurable};
+ghost use Rattle.zoom.specs.Sizes.{Runnable, Measurable};
 use geometry::Sense;
 use geometry::Spot;
 
@@ -71,7 +71,7 @@ struct Part {
 
 // What follows a level: the answer of a run that is over, or a deeper level.
 enum Next {
-    Over(Quick),
+    Ended(Quick),
     Deeper,
 }
 

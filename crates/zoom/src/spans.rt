@@ -7,7 +7,7 @@ ghost use lib.ListN.{length};
 ghost use Rattle.geometry.specs.Layout.{rectsOf};
 ghost use Rattle.buffers.specs.Written.{Front};
 ghost use Rattle.geometry.specs.Strips.{StripSmall};
-ghost use Rattle.zoom.specs.Limits.{spanRoom};
+ghost use Rattle.zoom.specs.Sizes.{spanRoom};
 ghost use Rattle.zoom.specs.Strips.{spanFrom, spanTo, stripAt, alongStrip};
 use crate::Grid;
 use geometry::Sense;

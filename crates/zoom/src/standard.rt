@@ -6,7 +6,7 @@ ghost use Rattle.geometry.specs.Extreme.{spotAt, replaced, bestInRow, bestInRow
 ghost use Rattle.geometry.specs.Layout.{rectsOf};
 ghost use Rattle.geometry.specs.Strips.{StripSmall};
 ghost use Rattle.extremes.specs.Exact.{windowArea};
-ghost use Rattle.zoom.specs.Limits.{spanRoom};
+ghost use Rattle.zoom.specs.Sizes.{spanRoom};
 ghost use Rattle.zoom.specs.Strips.{windowAlong};
 ghost use Rattle.zoom.specs.Passing.{Passable, RowPassable, StripPassable};
 use crate::Grid;

@@ -22,13 +22,13 @@ slice-aggregate-phase-number c =
 array-share-prefix-amounts : tie.Need-array-share-prefix-amounts
 array-share-prefix-amounts c =
     let s = c .before .before .before .before .before .before in
-    omega (arith, c .before .tile-count .ensures, tiles-few (tilesAcross (s .args .job .head)) (s .pre .tiles), s .pre .cells)
+    omega (arith, c .before .tile-count .ensures, tiles-few (tilesAcross (s .args .job .head)) (s .pre .tiles), s .pre .amounts-room)
 
 slice-aggregate-phase-number-2 : tie.Need-slice-aggregate-phase-number-2
 slice-aggregate-phase-number-2 c =
     let s = c .before .before .before .before .before .before .before in
     sym (length-take-le (c .before .before .tile-count .result) (s .args .job .amounts)
-    (omega (arith, c .before .before .tile-count .ensures, tiles-few (tilesAcross (s .args .job .head)) (s .pre .tiles), s .pre .cells)))
+    (omega (arith, c .before .before .tile-count .ensures, tiles-few (tilesAcross (s .args .job .head)) (s .pre .tiles), s .pre .amounts-room)))
 
 phase-number-requires : tie.Need-phase-number-requires
 phase-number-requires c κs =

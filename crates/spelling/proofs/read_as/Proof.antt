@@ -3,6 +3,7 @@ use Prim.Native.Nat.{_-_, _<_}
 use native.Mathlib.Omega.{arith}
 use borrow.Author.Needs.{needs}
 use lib.ListN.{length}
+use Rattle.spelling.specs.Scanning.{mostValues}
 use Rattle.spelling.proofs.Progress.{ReadTo, read-start, room, number-missing, number-read, line-short, byte-other, byte-read, bytes-left, all-read}
 use Rattle.spelling.proofs.read_as.Statement.{statement}
 use Rattle.spelling.proofs.read_as.Tie as tie
@@ -22,7 +23,7 @@ shared-slice-read-c c = search needs
 read-number-requires : tie.Need-read-number-requires Inv-loop μ-loop
 read-number-requires c κs = search needs
 
-cell-free : (c : tie.Then2 Inv-loop μ-loop) → c .before .before .before .before .before .loop .count < 8
+cell-free : (c : tie.Then2 Inv-loop μ-loop) → c .before .before .before .before .before .loop .count < mostValues
 cell-free c = search room
 
 mul-values : tie.Need-mul-values Inv-loop μ-loop

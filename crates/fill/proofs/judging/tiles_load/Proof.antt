@@ -6,7 +6,7 @@ use native.Mathlib.Nat.{zero-add}
 use native.Mathlib.Omega.{arith}
 use borrow.Author.Needs.{needs}
 use Rattle.geometry.specs.Count.{span}
-use Rattle.fill.specs.Limits.{heaviest}
+use Rattle.fill.specs.Sizes.{heaviest}
 use Rattle.fill.specs.Judge.{numberAt}
 use Rattle.fill.proofs.Windows.{span-next, span-end, span-room, box-light}
 use Rattle.fill.proofs.judging.tiles_load.Statement.{statement}

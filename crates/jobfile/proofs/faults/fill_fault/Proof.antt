@@ -24,7 +24,7 @@ place c =
     (c .before .before .if1 .left) (c .before .if2 .left) (c .tile-place .ensures)
 
 shared-slice-read-if3 : tie.Need-shared-slice-read-if3
-shared-slice-read-if3 c = omega (arith, place (c .before), c .before .before .before .before .before .before .before .before .pre .0 .cells)
+shared-slice-read-if3 c = omega (arith, place (c .before), c .before .before .before .before .before .before .before .before .pre .0 .amounts-room)
 
 tile-room-requires : tie.Need-tile-room-requires
 tile-room-requires c κs =

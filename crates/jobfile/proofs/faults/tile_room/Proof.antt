@@ -8,7 +8,7 @@ use lib.Seq.{length-take-le}
 use Rattle.geometry.specs.Layout.{rectsOf}
 use Rattle.fill.specs.Eligible.{tile, fillableArea}
 use Rattle.jobfile.specs.Forms.{tileSide}
-use Rattle.jobfile.proofs.Faulting.{tile-corners, tile-small}
+use Rattle.jobfile.proofs.Faulting.{tile-corners, tile-asked-small}
 use Rattle.jobfile.proofs.faults.tile_room.Statement.{statement}
 use Rattle.jobfile.proofs.faults.tile_room.Tie as tie
 
@@ -28,7 +28,7 @@ box c =
 fillable-requires : tie.Need-fillable-requires
 fillable-requires c κs =
     let start = c .before .before .before .before .before in
-    tile-small (start .args .s) (now (start .args .rects)) _ _ _ (start .pre) (box (c .before))
+    tile-asked-small (start .args .s) (now (start .args .rects)) _ _ _ (start .pre) (box (c .before))
 
 returns : tie.Need-returns
 returns c =

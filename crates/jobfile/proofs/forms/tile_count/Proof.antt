@@ -4,12 +4,13 @@ use mathlib.Core.Path.{ap₂}
 use Prim.Native.Nat.{_*_, _≤_}
 use native.Mathlib.Omega.{arith}
 use native.Mathlib.Nat.{mul-le-mul}
+use Rattle.jobfile.specs.Limits.{unitLimits}
 use Rattle.jobfile.proofs.forms.tile_count.Statement.{statement}
 use Rattle.jobfile.proofs.forms.tile_count.Tie as tie
 
 mul-result : tie.Need-mul-result
 mul-result c =
-    let few : c .tiles-across .result ≤ 64 = omega (arith, c .tiles-across .ensures, c .before .pre) in
+    let few : c .tiles-across .result ≤ unitLimits .tiles = omega (arith, c .tiles-across .ensures, c .before .pre) in
     record { fits = omega (arith, mul-le-mul few few) }
 
 returns : tie.Need-returns

@@ -23,13 +23,13 @@ slice-aggregate-run c =
 array-share-prefix-amounts : tie.Need-array-share-prefix-amounts
 array-share-prefix-amounts c =
     let s = c .before .before .before .before .before .before .before in
-    omega (arith, c .before .tile-count .ensures, tiles-few (tilesAcross (s .args .job .head)) (s .pre .0 .tiles), s .pre .0 .cells)
+    omega (arith, c .before .tile-count .ensures, tiles-few (tilesAcross (s .args .job .head)) (s .pre .0 .tiles), s .pre .0 .amounts-room)
 
 slice-aggregate-run-2 : tie.Need-slice-aggregate-run-2
 slice-aggregate-run-2 c =
     let s = c .before .before .before .before .before .before .before .before in
     sym (length-take-le (c .before .before .tile-count .result) (s .args .job .amounts)
-    (omega (arith, c .before .before .tile-count .ensures, tiles-few (tilesAcross (s .args .job .head)) (s .pre .0 .tiles), s .pre .0 .cells)))
+    (omega (arith, c .before .before .tile-count .ensures, tiles-few (tilesAcross (s .args .job .head)) (s .pre .0 .tiles), s .pre .0 .amounts-room)))
 
 run-requires : tie.Need-run-requires
 run-requires c κs =

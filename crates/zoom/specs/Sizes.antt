@@ -13,7 +13,7 @@ use Rattle.zoom.specs.declared.Level.{Level}
 
 -- the places of a table of flags, as `MOST_FLAGS` in src/
 abbrev pub flagsRoom : ℕ
-flagsRoom = 262144
+flagsRoom = 512 * 512
 
 -- the starts on an axis: a layout has one position more than its side at most
 abbrev pub startsRoom : ℕ
@@ -31,13 +31,17 @@ levelRoom = startsRoom * startsRoom
 abbrev pub keptRoom : ℕ
 keptRoom = 4398046511104
 
+-- an accuracy, in thousandths
+abbrev pub mostAccuracy : ℕ
+mostAccuracy = 1000
+
 -- a quick run: rectangles, what is asked, and the exact run's window
 pub record Runnable (s : Sense) (rects : List ℕ) (a : Asked) (m : Spot) : Type 0 where
   pub drawn : Drawn rects
   pub some-window : 1 ≤ a .window
   pub window-fits : a .window ≤ a .size
   pub small : a .size ≤ widest
-  pub accurate : a .accuracy ≤ 1000
+  pub accurate : a .accuracy ≤ mostAccuracy
   pub extreme-is : m ≡ extreme s (rectsOf rects) (a .size) (a .window)
 
 -- a density: the window's side, floor and ceiling
@@ -54,5 +58,5 @@ pub record LevelSmall (v : Level) : Type 0 where
 
 -- a level that is tested for an accuracy
 pub record Testable (e : ℕ) (v : Level) : Type 0 where
-  pub accurate : e ≤ 1000
+  pub accurate : e ≤ mostAccuracy
   pub small : LevelSmall v
