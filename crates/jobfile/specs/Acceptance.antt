@@ -63,7 +63,7 @@ pub data LineFault (limits : Limits) (st : Standing) (line : List ℕ) : ℕ →
   spelled : {f : Form} → Spells limits line f → LineFault limits st line (lineFault limits st f)
   unspelled : ((f : Form) → Spells limits line f → ⊥) → LineFault limits st line 2
 
--- the first fault of a text by number and line, where st stands before it and its first line is line k: of a file, nothing and 1
+-- the first fault of a text by number and line, where st stands before it and its first line is line k; of a file these are `beforeHead` and 1
 pub data FirstFault (limits : Limits) (st : Standing) (k : ℕ) (s : List ℕ) : (number line : ℕ) → Type 0 where
   -- good forms and then a line with a fault
   faulty : (fs : List Form) {st′ : Standing} {number : ℕ} (line after : List ℕ) → s ≡ formsText fs ++ (line ++ (10 ∷ after)) → feedless line ≡ true →
