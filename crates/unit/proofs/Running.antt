@@ -1,6 +1,6 @@
 -- The phases together make the answer.
 use Prim.Native.Nat.{ℕ, _*_, _≤_}
-use mathlib.Core.Path.{_≡_, subst⁻¹}
+use mathlib.Core.Path.{_≡_, ap, subst⁻¹}
 use mathlib.Core.List.{List}
 use native.Mathlib.Omega.{arith}
 use lib.ListN.{take}
@@ -11,7 +11,7 @@ use Rattle.extremes.specs.declared.Extremes.{Extremes}
 use Rattle.extremes.specs.Exact.{exactRun}
 use Rattle.zoom.specs.declared.Quick.{Quick}
 use Rattle.zoom.specs.Run.{quickRun, density}
-use Rattle.zoom.specs.Sizes.{Measurable}
+use Rattle.zoom.specs.Sizes.{Runnable, Measurable}
 use Rattle.zoom.proofs.Bracket.{quick-run-small}
 use Rattle.fill.specs.declared.Plan.{Plan}
 use Rattle.fill.specs.declared.Verdict.{Verdict}
@@ -30,6 +30,19 @@ planAt h tiles side = record { across = tiles; cut = h .cut; side = side; window
 module _ (h : Head) (rects amounts : List ℕ) where
   abbrev quick : Quick
   quick = quickRun Greatest (rectsOf rects) (h .size) (h .window) (h .accuracy) (h .levels)
+
+  -- what the quick run asks, after the exact run
+  pub runnable : Ready h rects amounts → (x : Extremes) → x ≡ exactRun (rectsOf rects) (h .size) (h .window) →
+      Runnable Greatest rects (record { size = h .size; window = h .window; accuracy = h .accuracy; levels = h .levels }) (x .greatest)
+  runnable r x e =
+      record {
+        drawn = r .drawn;
+        some-window = r .some-window;
+        window-fits = r .window-fits;
+        small = r .small;
+        accurate = r .accurate;
+        extreme-is = ap (λ (y : Extremes). y .greatest) e;
+      }
 
   -- what forming the density asks
   pub bracket-small : Ready h rects amounts → (q : Quick) → q ≡ quick →

@@ -1,22 +1,13 @@
 -- `unit::run::run` meets its contract. Assumes nothing.
 use borrow.Author.Needs.{needs}
-use mathlib.Core.Path.{ap}
-use Rattle.extremes.specs.declared.Extremes.{Extremes}
-use Rattle.unit.proofs.Running.{bracket-small, answer-is, planned-at}
+use Rattle.unit.proofs.Running.{runnable, bracket-small, answer-is, planned-at}
 use Rattle.unit.proofs.run.run.Statement.{statement}
 use Rattle.unit.proofs.run.run.Tie as tie
 
 quick-run-requires : tie.Need-quick-run-requires
 quick-run-requires c κs =
-    let r = c .before .before .before .before .before .before .pre in
-    record {
-      drawn = r .drawn;
-      some-window = r .some-window;
-      window-fits = r .window-fits;
-      small = r .small;
-      accurate = r .accurate;
-      extreme-is = ap (λ (e : Extremes). e .greatest) (c .before .exact-run .ensures);
-    }
+    let s = c .before .before .before .before .before .before in
+    runnable (s .args .head) (s .args .rects .now) (s .args .amounts .now) (s .pre) (c .before .exact-run .result) (c .before .exact-run .ensures)
 
 density-requires : tie.Need-density-requires
 density-requires c κs =
