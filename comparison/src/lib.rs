@@ -2,7 +2,7 @@
 
 pub mod plain;
 
-use reference::answer::Reply;
+use reference::answer::{Reply, ANSWER_ROOM};
 
 mod entries {
     extern "C" {
@@ -37,8 +37,10 @@ pub fn answer(file: &[u8], out: &mut [u8]) -> Reply {
     }
 }
 
-/// Reads a job and runs one phase, for the benchmark: 1 is the exact run, 2 the
-/// exact and the quick run, 3 the verdict; 0 reads only.
+/// Reads a job and runs one phase, for the benchmark: 1 is the exact run, which
+/// gives the greatest area; 2 the exact run and the quick run for the greatest,
+/// which gives the ceiling; 3 the exact run and the quick run for the least,
+/// which gives the low end; 4 the verdict; 0 reads only.
 pub fn phase(file: &[u8], phase: u64) -> u64 {
     // SAFETY: as for `answer`.
     unsafe { entries::density_phase(file.as_ptr(), file.len(), phase) }
@@ -63,7 +65,7 @@ fn compare_with_room(file: &[u8], room: usize) -> Reply {
 /// second implementation writes only the front of an accepted job's buffer, so
 /// equal buffers are untouched everywhere else.
 pub fn compare(file: &[u8]) {
-    match compare_with_room(file, 512) {
+    match compare_with_room(file, ANSWER_ROOM) {
         Reply::Accepted(length) => {
             for room in [0, length - 1, length, length + 1] {
                 compare_with_room(file, room);

@@ -64,17 +64,21 @@ fn boundary_list() {
 fn sample_jobs() {
     let samples = [
         ("a", "(fill safe)"),
+        (
+            "stripes",
+            "(zoommin met (levels 4) (low 23) (high 36 8 16) (kept 225))",
+        ),
         ("safe", "(fill safe)"),
         ("broken", "(fill broken over 3 0)"),
         ("undecided", "(fill undecided over 2 1)"),
         ("refused", "(refused 11 8)"),
     ];
     on_large_stack(move || {
-        for (name, last) in samples {
+        for (name, line) in samples {
             let file = std::fs::read(format!("../jobs/{name}.job")).expect("a sample job");
             compare(&file);
             let printed = reference::answer::printed(reference::answer::Method::Fast, &file);
-            assert_eq!(printed.lines().last(), Some(last), "{name}");
+            assert!(printed.lines().any(|l| l == line), "{name}: {printed}");
         }
     });
 }

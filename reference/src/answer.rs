@@ -2,7 +2,11 @@
 
 use crate::job::{Fault, Job, Refusal};
 use crate::outcome::{Outcome, Quick};
+use crate::sense::Sense;
 use crate::{brute, fast};
+
+/// A buffer of this length, which is the unit's own, has room for every answer.
+pub const ANSWER_ROOM: usize = 656;
 
 /// Which implementation of the phases to use.
 #[derive(Clone, Copy)]
@@ -38,24 +42,25 @@ impl Method {
 
     /// All phases on a job that was read.
     pub fn outcome(self, job: &Job) -> Outcome {
-        let (exact, quick, verdict) = match self {
+        let (exact, [greatest, least], verdict) = match self {
             Method::Brute => {
                 let grid = brute::Grid::new(job);
                 let exact = brute::exact_run(job, &grid);
-                let quick = brute::quick_run(job, &grid, exact.max);
+                let quick = Sense::BOTH.map(|sense| brute::quick_run(job, &grid, sense, &exact));
                 (exact, quick, brute::verdict(job, &grid))
             }
             Method::Fast => {
                 let cover = fast::drawn_cover(job);
                 let exact = fast::exact_run(job, &cover);
-                let quick = fast::quick_run(job, &cover, exact.max);
+                let quick = Sense::BOTH.map(|sense| fast::quick_run(job, &cover, sense, &exact));
                 (exact, quick, fast::verdict(job, &cover))
             }
         };
         Outcome {
             exact,
-            quick,
-            density: density(job, &quick),
+            greatest,
+            least,
+            density: density(job, &greatest),
             verdict,
         }
     }
@@ -66,9 +71,10 @@ impl Method {
     }
 }
 
-/// The density in ten-thousandths midway between floor and ceiling.
-fn density(job: &Job, quick: &Quick) -> u64 {
-    10_000 * (quick.floor.area + quick.ceiling) / (2 * job.window * job.window)
+/// The density midway between the ends of the greatest's bracket.
+fn density(job: &Job, greatest: &Quick) -> u64 {
+    let (low, high) = greatest.bracket();
+    10_000 * (low + high) / (2 * job.window * job.window)
 }
 
 /// Answers a job into a lent buffer. Only an accepted job's answer is written,

@@ -1,8 +1,9 @@
 //! The same answers for every legal job, in little time.
 
-use crate::cover::{Cover, Span};
+use crate::cover::{Cover, Span, Strip};
 use crate::job::{self, Job, Refusal};
 use crate::outcome::{End, Exact, Failure, Quick, Side, Verdict, Window};
+use crate::sense::Sense;
 use std::ops::Range;
 
 /// Reads a job file.
@@ -80,57 +81,81 @@ fn window_at_origin(job: &Job, cover: &Cover) -> Window {
     }
 }
 
-/// A start of the quick run on either axis, with its two spans across.
+/// The stretch of a window along either axis, with its span across.
+struct Stretch {
+    ends: Range<u64>,
+    span: Span,
+}
+
+impl Stretch {
+    fn new(cover: &Cover, ends: Range<u64>) -> Stretch {
+        let span = cover.span(ends.start, ends.end);
+        Stretch { ends, span }
+    }
+
+    fn strip(&self, cover: &Cover) -> Strip {
+        cover.strip(self.ends.start, self.ends.end)
+    }
+}
+
+/// A start of a quick run on either axis.
 struct Start {
-    at: u64,
-    standard_end: u64,
-    bloated_end: u64,
-    standard: Span,
-    bloated: Span,
+    standard: Stretch,
+    /// Of the window that bounds all those from this start to before the next:
+    /// the bloated one lies around each of them, the shrunk one inside each.
+    bounding: Stretch,
 }
 
 impl Start {
     /// All starts of the level with this tile side.
-    fn all(job: &Job, cover: &Cover, tile: u64) -> Vec<Start> {
+    fn all(job: &Job, cover: &Cover, sense: Sense, tile: u64) -> Vec<Start> {
         let start = |index: u64| {
             let at = index * tile;
-            let standard_end = at + job.window;
-            let bloated_end = (standard_end + tile).min(job.size);
+            let end = at + job.window;
+            let bounding = match sense {
+                Sense::Greatest => at..(end + tile).min(job.size),
+                Sense::Least => at + tile..end,
+            };
             Start {
-                at,
-                standard_end,
-                bloated_end,
-                standard: cover.span(at, standard_end),
-                bloated: cover.span(at, bloated_end),
+                standard: Stretch::new(cover, at..end),
+                bounding: Stretch::new(cover, bounding),
             }
         };
         (0..=job.last_position() / tile).map(start).collect()
     }
+
+    fn at(&self) -> u64 {
+        self.standard.ends.start
+    }
 }
 
-/// A level of the quick run.
+/// A level of a quick run.
 struct Level {
+    sense: Sense,
     /// Starts on each axis.
     across: usize,
     /// The best standard window up to this level.
-    floor: Window,
-    /// Bloated area of each start, row by row; 0 where it was passed over.
-    bloated: Vec<u64>,
+    named: Window,
+    /// Bounding area of each start, row by row; the worst where it was passed
+    /// over.
+    bounding: Vec<u64>,
 }
 
 impl Level {
     /// Does the level with this tile side.
     ///
     /// A start's bloated window lies in that of its parent, the start at or
-    /// before it one level up. If the parent was not kept, the start can raise
-    /// neither floor nor ceiling nor be kept itself, and is passed over.
-    fn new(job: &Job, cover: &Cover, tile: u64, previous: Option<&Level>) -> Level {
-        let starts = Start::all(job, cover, tile);
+    /// before it one level up, and its shrunk window holds the parent's. So if
+    /// the parent was not kept, the start can move neither end of the bracket
+    /// nor be kept itself, and is passed over.
+    fn new(job: &Job, cover: &Cover, sense: Sense, tile: u64, previous: Option<&Level>) -> Level {
+        let starts = Start::all(job, cover, sense, tile);
         let across = starts.len();
         let mut level = Level {
+            sense,
             across,
-            floor: previous.map_or_else(|| window_at_origin(job, cover), |p| p.floor),
-            bloated: vec![0; across * across],
+            named: previous.map_or_else(|| window_at_origin(job, cover), |p| p.named),
+            bounding: vec![sense.worst(); across * across],
         };
         for row in 0..across {
             let columns = match previous {
@@ -146,7 +171,7 @@ impl Level {
 
     /// Columns of the next level's row that have a kept parent.
     fn children(&self, row: usize, across: usize) -> Vec<usize> {
-        let parents = &self.bloated[row / 2 * self.across..][..self.across];
+        let parents = &self.bounding[row / 2 * self.across..][..self.across];
         let kept = |&(_, &area): &(usize, &u64)| self.keeps(area);
         parents
             .iter()
@@ -159,76 +184,77 @@ impl Level {
 
     fn examine(&mut self, cover: &Cover, starts: &[Start], row: usize, columns: &[usize]) {
         let down = &starts[row];
-        let standard = cover.strip(down.at, down.standard_end);
-        let bloated = cover.strip(down.at, down.bloated_end);
+        let standard = down.standard.strip(cover);
+        let bounding = down.bounding.strip(cover);
         for &column in columns {
             let across = &starts[column];
-            let ceiling = bloated.area(&across.bloated);
-            self.bloated[row * self.across + column] = ceiling;
-            // A standard window has at most the area of its bloated one.
-            if self.keeps(ceiling) {
-                let area = standard.area(&across.standard);
-                if area > self.floor.area {
-                    let (x, y) = (across.at, down.at);
-                    self.floor = Window { area, x, y };
-                }
+            let limit = bounding.area(&across.bounding.span);
+            self.bounding[row * self.across + column] = limit;
+            // A standard window is no better than its bounding one.
+            if self.keeps(limit) {
+                let area = standard.area(&across.standard.span);
+                let (x, y) = (across.at(), down.at());
+                self.named = self.named.or_better(Window { area, x, y }, self.sense);
             }
         }
     }
 
-    fn keeps(&self, bloated: u64) -> bool {
-        bloated > self.floor.area
+    fn keeps(&self, bounding: u64) -> bool {
+        self.sense.improves(bounding, self.named.area)
     }
 
     fn kept(&self) -> u64 {
-        self.bloated.iter().filter(|&&b| self.keeps(b)).count() as u64
+        self.bounding.iter().filter(|&&b| self.keeps(b)).count() as u64
     }
 
-    /// The greatest bloated area; one passed over has at most the floor's.
-    fn ceiling(&self) -> u64 {
-        let examined = self.bloated.iter().copied();
-        examined.fold(self.floor.area, u64::max)
+    /// The best bounding area; one passed over is no better than the named
+    /// window's.
+    fn limit(&self) -> u64 {
+        let examined = self.bounding.iter().copied();
+        self.sense.best(self.named.area, examined)
     }
 
     fn quick(&self, end: End, levels: u64) -> Quick {
         Quick {
+            sense: self.sense,
             end,
             levels,
-            floor: self.floor,
-            ceiling: self.ceiling(),
+            named: self.named,
+            limit: self.limit(),
             kept: self.kept(),
         }
     }
 
     /// The exact search in place of one more level.
-    fn exact(&self, levels: u64, max: Window) -> Quick {
-        let replaces = max.area > self.floor.area;
+    fn exact(&self, levels: u64, extreme: Window) -> Quick {
         Quick {
+            sense: self.sense,
             end: End::Exact,
             levels,
-            floor: if replaces { max } else { self.floor },
-            ceiling: max.area,
+            named: self.named.or_better(extreme, self.sense),
+            limit: extreme.area,
             kept: 0,
         }
     }
 }
 
-/// The quick run; `max` is the exact maximum, for the case that all levels
-/// are done without an end.
-pub fn quick_run(job: &Job, cover: &Cover, max: Window) -> Quick {
-    let mut level = Level::new(job, cover, job.window, None);
+/// A quick run; the exact extremes are for the case that all levels are done
+/// without an end.
+pub fn quick_run(job: &Job, cover: &Cover, sense: Sense, exact: &Exact) -> Quick {
+    let mut level = Level::new(job, cover, sense, job.window, None);
     let mut levels = 1;
     loop {
-        if job.is_met(level.floor.area, level.ceiling()) {
+        let (low, high) = sense.bracket(level.named.area, level.limit());
+        if job.is_met(low, high) {
             return level.quick(End::Met, levels);
         }
         if levels == job.levels {
             return level.quick(End::Stopped, levels);
         }
         if levels > job.halvings() {
-            return level.exact(levels + 1, max);
+            return level.exact(levels + 1, exact.window(sense));
         }
-        level = Level::new(job, cover, job.window >> levels, Some(&level));
+        level = Level::new(job, cover, sense, job.window >> levels, Some(&level));
         levels += 1;
     }
 }

@@ -34,7 +34,7 @@ pub(crate) const RECT_RANGES: Ranges<4> = [CORNER; 4];
 pub(crate) const FILL_RANGES: Ranges<3> = [TILE, TILE, (1, LARGEST_SIDE * LARGEST_SIDE)];
 
 /// A job that was read without a fault.
-#[derive(Debug, Default)]
+#[derive(Clone, Debug, Default)]
 pub struct Job {
     /// Side of the layout.
     pub size: u64,
@@ -48,9 +48,9 @@ pub struct Job {
     pub lower: u64,
     /// Upper density bound in ten-thousandths.
     pub upper: u64,
-    /// Accuracy of the quick run in thousandths.
+    /// Accuracy of the quick runs in thousandths.
     pub accuracy: u64,
-    /// Levels the quick run may do.
+    /// Levels each quick run may do.
     pub levels: u64,
     /// Corners X1 Y1 X2 Y2 of each rectangle, in file order.
     pub rects: Vec<[u64; 4]>,
@@ -79,14 +79,14 @@ impl Job {
         self.tiles() - self.cut
     }
 
-    /// How often the quick run halves the window side.
+    /// How often a quick run halves the window side.
     pub(crate) fn halvings(&self) -> u64 {
         u64::from(self.window.trailing_zeros()).min(MOST_HALVINGS)
     }
 
-    /// Whether floor and ceiling are as close as the accuracy asks.
-    pub(crate) fn is_met(&self, floor: u64, ceiling: u64) -> bool {
-        1000 * ceiling <= (1000 + 2 * self.accuracy) * floor
+    /// Whether the ends of a bracket are as close as the accuracy asks.
+    pub(crate) fn is_met(&self, low: u64, high: u64) -> bool {
+        1000 * high <= (1000 + 2 * self.accuracy) * low
     }
 
     /// Whether a window sum keeps the upper bound.

@@ -1,10 +1,11 @@
-//! Second implementation of the density unit, written from document 01 alone.
+//! Second implementation of the density unit, written from documents 01 and 02
+//! alone.
 //!
 //! [`brute`] counts unit squares as the definitions say and serves as the
 //! yardstick on small layouts; [`fast`] takes every legal job. Both share the
-//! reader ([`job`]), the shape of the results ([`outcome`]) and the printing
-//! ([`answer`]). [`generate`] makes the jobs on which implementations are
-//! compared.
+//! reader ([`job`]), the two extremes ([`sense`]), the shape of the results
+//! ([`outcome`]) and the printing ([`answer`]). [`generate`] makes the jobs on
+//! which implementations are compared.
 
 pub mod answer;
 pub mod brute;
@@ -13,3 +14,4 @@ pub mod fast;
 pub mod generate;
 pub mod job;
 pub mod outcome;
+pub mod sense;

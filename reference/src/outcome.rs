@@ -1,5 +1,6 @@
 //! What the phases of an answer return, each shown as its answer line.
 
+use crate::sense::Sense;
 use std::fmt::{self, Display, Formatter};
 
 /// A window by its area and lower left corner.
@@ -10,6 +11,17 @@ pub struct Window {
     pub y: u64,
 }
 
+impl Window {
+    /// This window, or the other one if that is strictly better.
+    pub fn or_better(self, other: Window, sense: Sense) -> Window {
+        if sense.improves(other.area, self.area) {
+            other
+        } else {
+            self
+        }
+    }
+}
+
 /// The greatest and the least window over all positions.
 #[derive(Clone, Copy, Debug, PartialEq, Eq)]
 pub struct Exact {
@@ -17,7 +29,17 @@ pub struct Exact {
     pub min: Window,
 }
 
-/// How the quick run ended.
+impl Exact {
+    /// The extreme window of a sense.
+    pub fn window(&self, sense: Sense) -> Window {
+        match sense {
+            Sense::Greatest => self.max,
+            Sense::Least => self.min,
+        }
+    }
+}
+
+/// How a quick run ended.
 #[derive(Clone, Copy, Debug, PartialEq, Eq)]
 pub enum End {
     Met,
@@ -25,14 +47,24 @@ pub enum End {
     Exact,
 }
 
-/// The quick run's bracket of the greatest window area.
+/// A quick run's bracket of the greatest or the least window area.
 #[derive(Clone, Copy, Debug, PartialEq, Eq)]
 pub struct Quick {
+    pub sense: Sense,
     pub end: End,
     pub levels: u64,
-    pub floor: Window,
-    pub ceiling: u64,
+    /// The best window found: the floor, or the high end of the least.
+    pub named: Window,
+    /// An area that no window passes: the ceiling, or the low end of the least.
+    pub limit: u64,
     pub kept: u64,
+}
+
+impl Quick {
+    /// Low and high end of the bracket.
+    pub fn bracket(&self) -> (u64, u64) {
+        self.sense.bracket(self.named.area, self.limit)
+    }
 }
 
 /// The bound that fails: the upper one is passed over, the lower one under.
@@ -62,7 +94,9 @@ pub enum Verdict {
 #[derive(Debug, PartialEq, Eq)]
 pub struct Outcome {
     pub exact: Exact,
-    pub quick: Quick,
+    pub greatest: Quick,
+    pub least: Quick,
+    /// In ten-thousandths, midway between the ends of the greatest's bracket.
     pub density: u64,
     pub verdict: Verdict,
 }
@@ -92,16 +126,23 @@ impl Display for End {
 impl Display for Quick {
     fn fmt(&self, f: &mut Formatter) -> fmt::Result {
         let Quick {
+            sense,
             end,
             levels,
-            floor,
-            ceiling,
+            named,
+            limit,
             kept,
         } = self;
-        write!(
-            f,
-            "(zoom {end} (levels {levels}) (floor {floor}) (ceiling {ceiling}) (kept {kept}))"
-        )
+        match sense {
+            Sense::Greatest => write!(
+                f,
+                "(zoom {end} (levels {levels}) (floor {named}) (ceiling {limit}) (kept {kept}))"
+            ),
+            Sense::Least => write!(
+                f,
+                "(zoommin {end} (levels {levels}) (low {limit}) (high {named}) (kept {kept}))"
+            ),
+        }
     }
 }
 
@@ -128,7 +169,8 @@ impl Display for Verdict {
 impl Display for Outcome {
     fn fmt(&self, f: &mut Formatter) -> fmt::Result {
         writeln!(f, "{}", self.exact)?;
-        writeln!(f, "{}", self.quick)?;
+        writeln!(f, "{}", self.greatest)?;
+        writeln!(f, "{}", self.least)?;
         writeln!(f, "(density {})", self.density)?;
         writeln!(f, "{}", self.verdict)
     }

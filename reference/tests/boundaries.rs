@@ -3,10 +3,11 @@
 mod common;
 
 use common::printed_by_both;
-use reference::answer::{answer, answer_by, printed, Method, Reply};
+use reference::answer::{answer, answer_by, printed, Method, Reply, ANSWER_ROOM};
 use reference::generate::{boundary_jobs, large_job, large_jobs, Random};
-use reference::job::Refusal;
-use reference::outcome::End;
+use reference::job::{Job, Refusal};
+use reference::outcome::{End, Exact, Failure, Outcome, Quick, Side, Verdict, Window};
+use reference::sense::Sense;
 use reference::{brute, fast};
 
 #[test]
@@ -19,7 +20,7 @@ fn acceptance_and_refusal_at_the_limits() {
             "{}",
             case.name
         );
-        let counted = |job: &reference::job::Job| job.size <= brute::LARGEST_SIDE;
+        let counted = |job: &Job| job.size <= brute::LARGEST_SIDE;
         if result.is_ok_and(|job| counted(&job)) {
             printed_by_both(&case.job);
         }
@@ -64,6 +65,7 @@ fn window_as_large_as_the_layout() {
         );
         let expected = "(exact (max 4 0 0) (min 4 0 0))\n\
                         (zoom met (levels 1) (floor 4 0 0) (ceiling 4) (kept 0))\n\
+                        (zoommin met (levels 3) (low 4) (high 4 0 0) (kept 0))\n\
                         (density 625)\n\
                         (fill safe)\n";
         assert_eq!(printed_by_both(file.as_bytes()), expected);
@@ -99,14 +101,48 @@ fn buffers_of_every_length() {
     }
 }
 
+/// Even if each number were the longest there is.
+#[test]
+fn room_for_every_answer() {
+    const MOST: u64 = u64::MAX;
+    let window = Window {
+        area: MOST,
+        x: MOST,
+        y: MOST,
+    };
+    let quick = |sense| Quick {
+        sense,
+        end: End::Stopped,
+        levels: MOST,
+        named: window,
+        limit: MOST,
+        kept: MOST,
+    };
+    let longest = Outcome {
+        exact: Exact {
+            max: window,
+            min: window,
+        },
+        greatest: quick(Sense::Greatest),
+        least: quick(Sense::Least),
+        density: MOST,
+        verdict: Verdict::Undecided(Failure {
+            side: Side::Under,
+            column: MOST,
+            row: MOST,
+        }),
+    };
+    assert!(longest.to_string().len() <= ANSWER_ROOM);
+}
+
 #[test]
 fn refused_files_write_nothing() {
     for case in boundary_jobs() {
-        let mut buffer = [b'#'; 512];
+        let mut buffer = [b'#'; ANSWER_ROOM];
         let reply = answer(&case.job, &mut buffer);
         if let Some(Refusal { number, line }) = case.refusal {
             assert_eq!(reply, Reply::Refused { number, line }, "{}", case.name);
-            assert_eq!(buffer, [b'#'; 512], "{}", case.name);
+            assert_eq!(buffer, [b'#'; ANSWER_ROOM], "{}", case.name);
             // A fault of the file counts before the buffer's.
             assert_eq!(answer(&case.job, &mut []), reply, "{}", case.name);
         }
@@ -121,7 +157,7 @@ fn large_jobs_are_accepted() {
         .chain((0..40).map(|_| large_job(&mut random)))
         .collect();
     for job in jobs {
-        let mut buffer = [0; 512];
+        let mut buffer = [0; ANSWER_ROOM];
         let reply = answer(&job, &mut buffer);
         assert!(matches!(reply, Reply::Accepted(_)), "{reply:?}");
     }
@@ -142,12 +178,29 @@ fn heaviest_jobs_are_as_heavy_as_can_be() {
         let cover = fast::drawn_cover(job);
         assert!(cover.column_cuts().len() >= 512 && cover.row_cuts().len() >= 512);
     }
-    let soon = read("soon met");
-    let cover = fast::drawn_cover(&soon);
-    let greatest = fast::exact_run(&soon, &cover).max;
-    let zoom = fast::quick_run(&soon, &cover, greatest);
-    assert_eq!((zoom.end, zoom.levels), (End::Met, 2));
     let tiles = read("most tiles");
     assert_eq!(tiles.fills.len(), 4096);
     assert!(tiles.fills.iter().filter(|&&p| p > 0).count() > 3800);
+}
+
+#[test]
+fn quick_runs_of_the_heaviest_jobs() {
+    let runs = |name: &str, levels: u64| {
+        let large = large_jobs().into_iter().find(|large| large.name == name);
+        let job = fast::read(&large.unwrap().job).unwrap();
+        let Outcome {
+            greatest, least, ..
+        } = Method::Fast.outcome(&Job { levels, ..job });
+        [greatest, least]
+    };
+    let ends = |name| runs(name, 6).map(|quick| (quick.end, quick.levels));
+    assert_eq!(ends("most starts"), [(End::Exact, 6), (End::Exact, 6)]);
+    assert_eq!(ends("soon met"), [(End::Met, 2), (End::Met, 3)]);
+    assert_eq!(ends("windows alike"), [(End::Exact, 6), (End::Exact, 6)]);
+    // The starts on an axis at each level, of which only the last in the last
+    // row is ever left out, its bloated window being cut off on both sides.
+    for (level, across) in [64, 127, 253, 505, 1009].into_iter().enumerate() {
+        let kept = runs("windows alike", level as u64 + 1).map(|quick| quick.kept);
+        assert_eq!(kept, [across * across - 1, across * across]);
+    }
 }

@@ -1,10 +1,11 @@
 //! Whether the generated jobs reach every kind of answer and refusal.
 
-use reference::answer::{answer, Method, Reply};
+use reference::answer::{answer, Method, Reply, ANSWER_ROOM};
 use reference::fast;
 use reference::generate::{boundary_jobs, job_with_fault, mixed_job, small_job, Random, SPOILABLE};
 use reference::job::Job;
-use reference::outcome::{End, Outcome, Side, Verdict};
+use reference::outcome::{End, Exact, Outcome, Quick, Side, Verdict};
+use reference::sense::Sense;
 use std::collections::BTreeMap;
 
 /// How often each thing was seen.
@@ -48,14 +49,60 @@ fn verdict_name(verdict: Verdict) -> String {
     }
 }
 
+fn line_name(sense: Sense) -> &'static str {
+    match sense {
+        Sense::Greatest => "zoom",
+        Sense::Least => "zoommin",
+    }
+}
+
+fn see_quick(counts: &mut Counts, job: &Job, quick: &Quick, exact: &Exact) {
+    let Quick { sense, named, .. } = *quick;
+    let (low, high) = quick.bracket();
+    let extreme = exact.window(sense);
+    let line = line_name(sense);
+    let mut see_if = |seen, what: &str| counts.see_if(seen, &format!("{line} {what}"));
+    let end = format!("{} {}", quick.end, quick.levels);
+    see_if(true, &end);
+    let many_positions = job.size > job.window;
+    see_if(many_positions && low > 0, &format!("{end} above 0"));
+    see_if(low == 0 && high > 0, "zero low end");
+    see_if(quick.end == End::Met && quick.kept > 0, "met with kept");
+    see_if(named.area != extreme.area, "extreme not found");
+    see_if(quick.limit != extreme.area, "limit off the extreme");
+    let by_search = quick.end == End::Exact;
+    see_if(by_search && named != extreme, "earlier window stays");
+    for levels in 1..quick.levels - u64::from(by_search) {
+        let leaves_out = leaves_out_starts(job, sense, exact, levels);
+        see_if(leaves_out, &format!("passes over after {levels}"));
+    }
+}
+
+/// Whether some start is not kept after so many levels, so that a further level
+/// passes over the starts that come from it.
+fn leaves_out_starts(job: &Job, sense: Sense, exact: &Exact, levels: u64) -> bool {
+    let shorter = Job {
+        levels,
+        ..job.clone()
+    };
+    let stopped = fast::quick_run(&shorter, &fast::drawn_cover(job), sense, exact);
+    let across = job.last_position() / (job.window >> (levels - 1)) + 1;
+    stopped.kept < across * across
+}
+
 fn see_outcome(counts: &mut Counts, job: &Job, outcome: &Outcome) {
-    let quick = &outcome.quick;
+    let Outcome {
+        exact,
+        greatest,
+        least,
+        ..
+    } = outcome;
+    see_quick(counts, job, greatest, exact);
+    see_quick(counts, job, least, exact);
+    counts.see_if(greatest.levels > least.levels, "zoom does more levels");
+    counts.see_if(least.levels > greatest.levels, "zoommin does more levels");
     counts.see(verdict_name(outcome.verdict));
-    counts.see(format!("{} {}", quick.end, quick.levels));
     counts.see_if(outcome.density > 10_000, "density above 10000");
-    counts.see_if(quick.end == End::Met && quick.kept > 0, "met with kept");
-    counts.see_if(quick.floor.area == 0 && quick.ceiling > 0, "zero floor");
-    counts.see_if(quick.floor.area < outcome.exact.max.area, "floor below max");
     counts.see_if(job.size == job.window, "one position");
     counts.see_if(job.window.is_multiple_of(32), "window halved no further");
     counts.see_if(job.cut == 1, "one tile a window");
@@ -68,6 +115,35 @@ fn see_outcome(counts: &mut Counts, job: &Job, outcome: &Outcome) {
     counts.see_if(job.fills.iter().zip(&fillable).any(full), "full tile");
 }
 
+/// What the quick run of a sense must be seen to do.
+fn wanted_of_quick_run(sense: Sense) -> impl Iterator<Item = String> {
+    let ends = |levels| {
+        let exact = format!("exact {}", levels + 1);
+        [format!("met {levels}"), format!("stopped {levels}"), exact]
+    };
+    // At level 0 shrunk windows are empty: a least area above 0 is not met there,
+    // and no start is left out.
+    let first = match sense {
+        Sense::Greatest => 1,
+        Sense::Least => 2,
+    };
+    let met_above_zero = (first..=5).map(|levels| format!("met {levels} above 0"));
+    let passing_over = (first..=4).map(|levels| format!("passes over after {levels}"));
+    let others = [
+        "zero low end",
+        "met with kept",
+        "extreme not found",
+        "limit off the extreme",
+        "earlier window stays",
+    ];
+    (1..=5)
+        .flat_map(ends)
+        .chain(met_above_zero)
+        .chain(passing_over)
+        .chain(others.map(String::from))
+        .map(move |what| format!("{} {what}", line_name(sense)))
+}
+
 #[test]
 fn small_jobs_reach_every_answer() {
     let mut counts = Counts::default();
@@ -76,30 +152,23 @@ fn small_jobs_reach_every_answer() {
         let job = fast::read(&small_job(&mut random)).expect("small jobs are valid");
         see_outcome(&mut counts, &job, &Method::Fast.outcome(&job));
     }
-    let ends = (1..=5).flat_map(|levels| {
-        [
-            format!("met {levels}"),
-            format!("stopped {levels}"),
-            format!("exact {}", levels + 1),
-        ]
-    });
     let others = [
+        "zoom does more levels",
+        "zoommin does more levels",
         "safe",
         "broken over",
         "broken under",
         "undecided over",
         "undecided under",
         "density above 10000",
-        "met with kept",
-        "zero floor",
-        "floor below max",
         "one position",
         "window halved no further",
         "one tile a window",
         "ragged starts",
         "full tile",
     ];
-    counts.require(10, ends.chain(others.map(String::from)));
+    let of_quick_runs = Sense::BOTH.into_iter().flat_map(wanted_of_quick_run);
+    counts.require(10, of_quick_runs.chain(others.map(String::from)));
 }
 
 fn reply_name(job: &[u8], buffer: &mut [u8]) -> String {
@@ -116,7 +185,7 @@ fn every_fault_can_be_asked_for() {
         let mut counts = Counts::default();
         for _ in 0..400 {
             let job = job_with_fault(&mut random, fault);
-            counts.see(reply_name(&job, &mut [0; 512]));
+            counts.see(reply_name(&job, &mut [0; ANSWER_ROOM]));
         }
         println!("asked for fault {fault}");
         counts.require(100, [format!("fault {fault}")]);
@@ -128,7 +197,7 @@ fn mixed_jobs_reach_every_fault() {
     let mut counts = Counts::default();
     let mut random = Random::new(3);
     for _ in 0..20_000 {
-        let length = if random.one_in(20) { 60 } else { 512 };
+        let length = if random.one_in(20) { 60 } else { ANSWER_ROOM };
         let job = mixed_job(&mut random);
         counts.see(reply_name(&job, &mut vec![0; length]));
     }
@@ -140,7 +209,7 @@ fn mixed_jobs_reach_every_fault() {
 fn boundary_jobs_reach_every_fault_of_the_file() {
     let mut counts = Counts::default();
     for case in boundary_jobs() {
-        counts.see(reply_name(&case.job, &mut [0; 512]));
+        counts.see(reply_name(&case.job, &mut [0; ANSWER_ROOM]));
     }
     let faults = (1..=12).map(|number| format!("fault {number}"));
     counts.require(1, faults.chain(["accepted".to_string()]));

@@ -1,9 +1,10 @@
-//! The cases that document 01 states, and its settled readings.
+//! The cases that documents 01 and 02 state, and their settled readings.
 
 mod common;
 
 use common::printed_by_both;
 use reference::outcome::{End, Exact, Failure, Quick, Side, Verdict, Window};
+use reference::sense::Sense;
 use reference::{brute, fast};
 use std::io::Write;
 use std::process::{Command, Stdio};
@@ -27,13 +28,27 @@ fn exact(file: &str) -> Exact {
     exact
 }
 
-/// The quick run, after a check that both methods find the same.
-fn quick(file: &str) -> Quick {
+/// A quick run, after a check that both methods find the same.
+fn quick(sense: Sense, file: &str) -> Quick {
     let job = fast::read(file.as_bytes()).unwrap();
-    let max = exact(file).max;
-    let quick = fast::quick_run(&job, &fast::drawn_cover(&job), max);
-    assert_eq!(quick, brute::quick_run(&job, &brute::Grid::new(&job), max));
+    let exact = exact(file);
+    let quick = fast::quick_run(&job, &fast::drawn_cover(&job), sense, &exact);
+    let grid = brute::Grid::new(&job);
+    assert_eq!(quick, brute::quick_run(&job, &grid, sense, &exact));
     quick
+}
+
+fn greatest(file: &str) -> Quick {
+    quick(Sense::Greatest, file)
+}
+
+/// Checks the run for the least on a job with several accuracies and levels:
+/// each row has these two, and then the line.
+fn assert_least(file: impl Fn(&str) -> String, rows: &[&str]) {
+    for row in rows {
+        let (zoom, line) = row.split_once(": ").unwrap();
+        assert_eq!(quick(Sense::Least, &file(zoom)).to_string(), line, "{row}");
+    }
 }
 
 /// The verdict, after a check that both methods find the same.
@@ -50,6 +65,7 @@ fn failure(side: Side, column: u64, row: u64) -> Failure {
 
 const ANSWER_A: &str = "(exact (max 4 1 1) (min 1 0 0))\n\
                         (zoom met (levels 2) (floor 4 2 2) (ceiling 4) (kept 0))\n\
+                        (zoommin exact (levels 4) (low 1) (high 1 0 0) (kept 0))\n\
                         (density 2500)\n\
                         (fill safe)\n";
 
@@ -100,26 +116,28 @@ fn a2_extremes() {
 #[test]
 fn a3_level_0() {
     let expected = Quick {
+        sense: Sense::Greatest,
         end: End::Stopped,
         levels: 1,
-        floor: window(1, 0, 0),
-        ceiling: 4,
+        named: window(1, 0, 0),
+        limit: 4,
         kept: 3,
     };
-    assert_eq!(quick(&job_a("0 5000", "0 1")), expected);
+    assert_eq!(greatest(&job_a("0 5000", "0 1")), expected);
 }
 
 #[test]
 fn a4_level_1() {
     let expected = Quick {
+        sense: Sense::Greatest,
         end: End::Met,
         levels: 2,
-        floor: window(4, 2, 2),
-        ceiling: 4,
+        named: window(4, 2, 2),
+        limit: 4,
         kept: 0,
     };
-    assert_eq!(quick(&job_a("0 5000", "0 6")), expected);
-    assert_eq!(quick(&job_a("0 5000", "0 2")), expected);
+    assert_eq!(greatest(&job_a("0 5000", "0 6")), expected);
+    assert_eq!(greatest(&job_a("0 5000", "0 2")), expected);
 }
 
 #[test]
@@ -152,14 +170,17 @@ fn k_the_ends_are_tried() {
 #[test]
 fn z_no_rectangle() {
     let file = "(job (size 8) (window 4) (cut 2) (gap 1) (bounds 0 5000) (zoom 0 6))\n(end)\n";
-    let expected = Quick {
-        end: End::Met,
-        levels: 1,
-        floor: window(0, 0, 0),
-        ceiling: 0,
-        kept: 0,
-    };
-    assert_eq!(quick(file), expected);
+    for sense in Sense::BOTH {
+        let expected = Quick {
+            sense,
+            end: End::Met,
+            levels: 1,
+            named: window(0, 0, 0),
+            limit: 0,
+            kept: 0,
+        };
+        assert_eq!(quick(sense, file), expected);
+    }
 }
 
 const HEAD: &str = "(job (size 8) (window 4) (cut 2) (gap 1) (bounds 0 5000) (zoom 0 6))\n";
@@ -253,30 +274,138 @@ fn exact_takes_a_level_of_its_own() {
              (rect 4 4 7 7)\n(end)\n"
         )
     };
-    let one = quick(&odd(1));
+    let one = greatest(&odd(1));
     assert_eq!((one.end, one.levels), (End::Stopped, 1));
-    let two = quick(&odd(2));
+    let two = greatest(&odd(2));
     assert_eq!((two.end, two.levels, two.kept), (End::Exact, 2, 0));
-    assert_eq!((two.floor, two.ceiling), (window(9, 4, 4), 9));
-    assert_eq!(quick(&odd(6)), two);
+    assert_eq!((two.named, two.limit), (window(9, 4, 4), 9));
+    assert_eq!(greatest(&odd(6)), two);
 }
 
 #[test]
 fn a_window_is_halved_at_most_four_times() {
     let file = "(job (size 40) (window 32) (cut 32) (gap 0) (bounds 0 10000) (zoom 0 6))\n\
                 (rect 3 3 36 36)\n(end)\n";
-    let quick = quick(file);
+    let quick = greatest(file);
     assert_eq!((quick.end, quick.levels), (End::Exact, 6));
-    assert_eq!((quick.floor, quick.ceiling), (window(1024, 4, 4), 1024));
+    assert_eq!((quick.named, quick.limit), (window(1024, 4, 4), 1024));
+    let row = "0 6: (zoommin exact (levels 6) (low 784) (high 784 8 8) (kept 0))";
+    assert_least(|_| file.to_string(), &[row]);
 }
 
 #[test]
 fn zero_floor_and_positive_ceiling_is_not_met() {
     let file = "(job (size 7) (window 3) (cut 3) (gap 0) (bounds 0 10000) (zoom 1000 1))\n\
                 (rect 6 6 7 7)\n(end)\n";
-    let quick = quick(file);
-    assert_eq!((quick.floor.area, quick.ceiling), (0, 1));
+    let quick = greatest(file);
+    assert_eq!((quick.named.area, quick.limit), (0, 1));
     assert_eq!((quick.end, quick.kept), (End::Stopped, 1));
+}
+
+/// A job of these sides, with accuracy and levels, and these rectangles.
+fn drawn(size: u64, window: u64, zoom: &str, rects: &[&str]) -> String {
+    let sides = format!("(size {size}) (window {window}) (cut {window})");
+    let rects: Vec<String> = rects.iter().map(|r| format!("(rect {r})\n")).collect();
+    let rects = rects.concat();
+    format!("(job {sides} (gap 0) (bounds 0 10000) (zoom {zoom}))\n{rects}(end)\n")
+}
+
+#[test]
+fn least_of_job_a() {
+    // Shrunk windows are empty at level 0, and have 1 at four of the nine starts
+    // of level 1: as much as the high end, so that these are not kept.
+    assert_least(
+        |zoom| job_a("0 5000", zoom),
+        &[
+            "0 1: (zoommin stopped (levels 1) (low 0) (high 1 0 0) (kept 4))",
+            "0 2: (zoommin stopped (levels 2) (low 0) (high 1 0 0) (kept 5))",
+            "0 3: (zoommin stopped (levels 3) (low 0) (high 1 0 0) (kept 9))",
+            "0 4: (zoommin exact (levels 4) (low 1) (high 1 0 0) (kept 0))",
+            "0 6: (zoommin exact (levels 4) (low 1) (high 1 0 0) (kept 0))",
+        ],
+    );
+}
+
+#[test]
+fn least_of_a_covered_layout() {
+    // Level 0 has 0 and 16, which no accuracy meets; level 1 has 4 and 16, which
+    // takes more than 1000, and level 2 has 9 and 16: at least 389.
+    assert_least(
+        |zoom| drawn(8, 4, zoom, &["0 0 8 8"]),
+        &[
+            "1000 1: (zoommin stopped (levels 1) (low 0) (high 16 0 0) (kept 4))",
+            "1000 2: (zoommin stopped (levels 2) (low 4) (high 16 0 0) (kept 9))",
+            "1000 3: (zoommin met (levels 3) (low 9) (high 16 0 0) (kept 25))",
+            "389 6: (zoommin met (levels 3) (low 9) (high 16 0 0) (kept 25))",
+            "388 3: (zoommin stopped (levels 3) (low 9) (high 16 0 0) (kept 25))",
+            "388 6: (zoommin exact (levels 4) (low 16) (high 16 0 0) (kept 0))",
+        ],
+    );
+}
+
+#[test]
+fn least_met_with_equal_ends() {
+    // All metal lies in the quarter that level 1 leaves of the window.
+    assert_least(
+        |zoom| drawn(8, 8, zoom, &["4 4 8 8"]),
+        &["0 6: (zoommin met (levels 2) (low 16) (high 16 0 0) (kept 0))"],
+    );
+}
+
+#[test]
+fn least_is_replaced_by_a_smaller_one() {
+    // Bars in columns 0, 1, 4, 6 and 7: of them the windows at 0 and 4 have two
+    // and three, that at 2 has one. At level 2 the shrunk windows at 0, 1 and 2
+    // have one, those at 3 and 4 two.
+    assert_least(
+        |zoom| drawn(8, 4, zoom, &["0 0 2 8", "4 0 5 8", "6 0 8 8"]),
+        &[
+            "0 1: (zoommin stopped (levels 1) (low 0) (high 8 0 0) (kept 4))",
+            "0 2: (zoommin stopped (levels 2) (low 0) (high 4 2 0) (kept 6))",
+            "167 6: (zoommin met (levels 3) (low 3) (high 4 2 0) (kept 15))",
+            "166 6: (zoommin exact (levels 4) (low 4) (high 4 2 0) (kept 0))",
+        ],
+    );
+    // Here only the search finds the one at 1.
+    assert_least(
+        |zoom| drawn(5, 3, zoom, &["0 0 1 5", "2 0 3 5"]),
+        &["0 6: (zoommin exact (levels 2) (low 3) (high 3 1 0) (kept 0))"],
+    );
+}
+
+#[test]
+fn least_of_an_earlier_level_stays_on_a_tie() {
+    // Level 0 finds the window at 4. Those at 1, 2 and 3 have no less: level 1
+    // sees that at 2, level 2 sees all, and the search finds that at 1.
+    let upright = |zoom: &str| drawn(8, 4, zoom, &["0 0 2 8", "5 0 6 8"]);
+    assert_eq!(exact(&upright("0 6")).min, window(4, 1, 0));
+    assert_least(
+        upright,
+        &[
+            "0 1: (zoommin stopped (levels 1) (low 0) (high 4 4 0) (kept 4))",
+            "0 2: (zoommin stopped (levels 2) (low 0) (high 4 4 0) (kept 9))",
+            "0 3: (zoommin stopped (levels 3) (low 0) (high 4 4 0) (kept 25))",
+            "0 6: (zoommin exact (levels 4) (low 4) (high 4 4 0) (kept 0))",
+        ],
+    );
+    // The same on the other axis.
+    assert_least(
+        |zoom| drawn(8, 4, zoom, &["0 0 8 2", "0 5 8 6"]),
+        &["0 6: (zoommin exact (levels 4) (low 4) (high 4 0 4) (kept 0))"],
+    );
+}
+
+#[test]
+fn each_quick_run_ends_on_its_own() {
+    let square = |zoom: &str| drawn(9, 3, zoom, &["4 4 7 7"]);
+    assert_eq!(greatest(&square("0 6")).levels, 2);
+    assert_least(
+        square,
+        &["0 6: (zoommin met (levels 1) (low 0) (high 0 0 0) (kept 0))"],
+    );
+    // The run for the greatest is met, with 4 and 4, and gives the density.
+    let stopped = "(zoommin stopped (levels 2) (low 0) (high 1 0 0) (kept 5))\n(density 2500)\n";
+    assert!(printed_by_both(job_a("0 5000", "0 2").as_bytes()).contains(stopped));
 }
 
 #[test]
@@ -290,7 +419,7 @@ fn density_is_not_capped() {
 fn met_may_keep_starts() {
     let file = "(job (size 8) (window 4) (cut 2) (gap 1) (bounds 0 10000) (zoom 1000 6))\n\
                 (rect 0 0 4 4)\n(rect 4 0 5 2)\n(end)\n";
-    let quick = quick(file);
+    let quick = greatest(file);
     assert_eq!((quick.end, quick.levels, quick.kept), (End::Met, 1, 1));
 }
 

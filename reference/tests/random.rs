@@ -12,6 +12,7 @@ use reference::generate::{
 };
 use reference::job::Job;
 use reference::outcome::{End, Exact, Failure, Outcome, Quick, Side, Verdict, Window};
+use reference::sense::Sense;
 
 /// Runs a check on random sources with consecutive seeds.
 fn for_seeds(first: u64, count: u64, check: impl Fn(&mut Random)) {
@@ -67,12 +68,17 @@ fn fillable_areas_agree() {
 }
 
 #[test]
-fn named_windows_and_bounds_of_the_maximum() {
+fn named_windows_and_brackets() {
     for_seeds(50_000, 3000, |random| {
         let job = valid_job(random);
         let grid = Grid::new(&job);
-        let Outcome { exact, quick, .. } = Method::Fast.outcome(&job);
-        for window in [exact.max, exact.min, quick.floor] {
+        let Outcome {
+            exact,
+            greatest,
+            least,
+            ..
+        } = Method::Fast.outcome(&job);
+        for window in [exact.max, exact.min, greatest.named, least.named] {
             assert_eq!(window.area, area_at(&job, &grid, window.x, window.y));
         }
         let positions = 0..job.last_position() + 1;
@@ -80,13 +86,46 @@ fn named_windows_and_bounds_of_the_maximum() {
             let area = area_at(&job, &grid, x, y);
             assert!(exact.min.area <= area && area <= exact.max.area);
         }
-        let (floor, max, ceiling) = (quick.floor.area, exact.max.area, quick.ceiling);
-        assert!(floor <= max && max <= ceiling);
-        if quick.end == End::Met {
-            let distance = (floor + ceiling).abs_diff(2 * max);
-            assert!(1000 * distance <= 2 * job.accuracy * max);
+        assert_bracket(&job, &greatest, exact.max.area);
+        assert_bracket(&job, &least, exact.min.area);
+    });
+}
+
+/// The extreme lies in the bracket, and after "met" near its middle.
+fn assert_bracket(job: &Job, quick: &Quick, extreme: u64) {
+    let (low, high) = quick.bracket();
+    assert!(low <= extreme && extreme <= high, "{quick}");
+    if quick.end == End::Met {
+        let distance = (low + high).abs_diff(2 * extreme);
+        assert!(1000 * distance <= 2 * job.accuracy * extreme, "{quick}");
+    }
+}
+
+/// More levels never widen a bracket, and change nothing in a run that ends
+/// before it has used up those it may do.
+#[test]
+fn more_levels_narrow_the_bracket() {
+    for_seeds(80_000, 3000, |random| {
+        let mut job = valid_job(random);
+        let cover = fast::drawn_cover(&job);
+        let exact = fast::exact_run(&job, &cover);
+        for sense in Sense::BOTH {
+            let runs = [1, 2, 3, 4, 5, 6].map(|levels| {
+                job.levels = levels;
+                fast::quick_run(&job, &cover, sense, &exact)
+            });
+            runs.windows(2)
+                .for_each(|pair| assert_narrows(&pair[0], &pair[1]));
         }
     });
+}
+
+fn assert_narrows(fewer: &Quick, more: &Quick) {
+    let ((low, high), (higher_low, lower_high)) = (fewer.bracket(), more.bracket());
+    assert!(low <= higher_low && lower_high <= high, "{fewer} {more}");
+    if fewer.end != End::Stopped {
+        assert_eq!(fewer, more);
+    }
 }
 
 fn area_at(job: &Job, grid: &Grid, x: u64, y: u64) -> u64 {
@@ -213,16 +252,18 @@ fn magnified(small: Outcome, factor: u64) -> Outcome {
         x: w.x * factor,
         y: w.y * factor,
     };
+    let quick = |q: Quick| Quick {
+        named: window(q.named),
+        limit: area(q.limit),
+        ..q
+    };
     Outcome {
         exact: Exact {
             max: window(small.exact.max),
             min: window(small.exact.min),
         },
-        quick: Quick {
-            floor: window(small.quick.floor),
-            ceiling: area(small.quick.ceiling),
-            ..small.quick
-        },
+        greatest: quick(small.greatest),
+        least: quick(small.least),
         ..small
     }
 }

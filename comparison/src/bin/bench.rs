@@ -1,14 +1,15 @@
 //! Times each phase of the proved unit on the heaviest legal jobs, and prints
 //! its ratio to the second implementation in the same run.
 //!
-//! The library reads the job for every phase and does the exact run before the
-//! quick one, so a phase is the difference of two times. Every time is the least
-//! of several runs; a dash stands for one that noise hides.
+//! The library reads the job for every phase and does the exact run before
+//! either quick one, so a phase is the difference of two times. Every time is the
+//! least of several runs; a dash stands for one that noise hides.
 
 use comparison::{on_large_stack, phase, plain};
 use reference::fast;
 use reference::generate::{large_jobs, LargeJob};
 use reference::job::Job;
+use reference::sense::Sense;
 use std::hint::black_box;
 use std::time::Instant;
 
@@ -42,7 +43,10 @@ struct Times {
     fills: Milliseconds,
     reading: Milliseconds,
     exact: Milliseconds,
-    quick: Milliseconds,
+    /// The quick run for the greatest.
+    greatest: Milliseconds,
+    /// The quick run for the least.
+    least: Milliseconds,
     verdict: Milliseconds,
 }
 
@@ -79,22 +83,27 @@ fn proved_times(file: &[u8], unfilled_file: &[u8]) -> Times {
         (file, 1),
         (file, 2),
         (file, 3),
+        (file, 4),
     ];
-    let [unfilled, reading, exact, exact_and_quick, verdict] = least_phase_times(tasks);
+    let [unfilled, reading, exact, exact_and_greatest, exact_and_least, verdict] =
+        least_phase_times(tasks);
     Times {
         unfilled: above_noise(unfilled),
         fills: difference(reading, unfilled),
         reading: above_noise(reading),
         exact: difference(exact, reading),
-        quick: difference(exact_and_quick, exact),
+        greatest: difference(exact_and_greatest, exact),
+        least: difference(exact_and_least, exact),
         verdict: difference(verdict, reading),
     }
 }
 
-/// The drawn cover, which serves three phases, counts with the exact run.
+/// The drawn cover, which serves all phases behind the reader, counts with the
+/// exact run.
 fn second_times(file: &[u8], unfilled_file: &[u8], job: &Job) -> Times {
     let cover = fast::drawn_cover(job);
-    let max = fast::exact_run(job, &cover).max;
+    let extremes = fast::exact_run(job, &cover);
+    let quick = |sense| least_time(|| fast::quick_run(job, &cover, sense, &extremes));
     let unfilled = least_time(|| fast::read(unfilled_file));
     let reading = least_time(|| fast::read(file));
     let exact = least_time(|| fast::exact_run(job, &fast::drawn_cover(job)));
@@ -103,7 +112,8 @@ fn second_times(file: &[u8], unfilled_file: &[u8], job: &Job) -> Times {
         fills: difference(reading, unfilled),
         reading: above_noise(reading),
         exact: above_noise(exact),
-        quick: above_noise(least_time(|| fast::quick_run(job, &cover, max))),
+        greatest: above_noise(quick(Sense::Greatest)),
+        least: above_noise(quick(Sense::Least)),
         verdict: above_noise(least_time(|| fast::verdict(job, &cover))),
     }
 }
@@ -131,6 +141,12 @@ fn print_row(name: &str, proved: Milliseconds, second: Milliseconds) {
     );
 }
 
+fn print_ratio(name: &str, time: Milliseconds, other: Milliseconds) {
+    if let Some(ratio) = ratio(time, other) {
+        println!("  {name}: {ratio:.3}");
+    }
+}
+
 fn bench(large: &LargeJob) {
     let file = &large.job;
     let job = fast::read(file).expect("large jobs are valid");
@@ -148,11 +164,16 @@ fn bench(large: &LargeJob) {
     print_row("reading in all", proved.reading, second.reading);
     print_row("exact run", proved.exact, second.exact);
     print_row("  beside a plain loop", proved.exact, plain);
-    print_row("quick run", proved.quick, second.quick);
+    print_row("quick run, greatest", proved.greatest, second.greatest);
+    print_row("quick run, least", proved.least, second.least);
     print_row("verdict", proved.verdict, second.verdict);
-    if let Some(ratio) = ratio(proved.quick, proved.exact) {
-        println!("  quick run / exact run: {ratio:.3}");
-    }
+    print_ratio(
+        "quick run / exact run, greatest",
+        proved.greatest,
+        proved.exact,
+    );
+    print_ratio("quick run / exact run, least", proved.least, proved.exact);
+    print_ratio("least / greatest", proved.least, proved.greatest);
 }
 
 fn main() {

@@ -15,6 +15,7 @@ use Rattle.geometry.specs.declared.Sense.{Sense}
 use Rattle.geometry.specs.declared.Sense.the-variants.{Greatest, Least}
 use Rattle.geometry.specs.Count.{one-if}
 use Rattle.geometry.specs.Layout.{windowBox, Disjoint}
+use Rattle.geometry.specs.Extreme.{Bounded}
 use Rattle.geometry.specs.Overlaps.{common, overlapSum}
 use Rattle.geometry.proofs.Overlaps.{overlap-is-area}
 use Rattle.extremes.specs.Exact.{windowArea}
@@ -24,11 +25,6 @@ use Rattle.extremes.specs.Search.{side, nearSide, farSide}
 abbrev pub Better : Sense → ℕ → ℕ → Type 0
 Better Greatest a b = b < a
 Better Least a b = a < b
-
--- a is no better than b, as an inequality
-abbrev pub Bounded : Sense → ℕ → ℕ → Type 0
-Bounded Greatest a b = a ≤ b
-Bounded Least a b = b ≤ a
 
 -- ---- how much of a span a window covers, as the window moves
 

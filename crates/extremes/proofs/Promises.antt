@@ -6,10 +6,10 @@ use mathlib.Core.List.{List}
 use Rattle.geometry.specs.declared.Rect.{Rect}
 use Rattle.geometry.specs.declared.Spot.{Spot}
 use Rattle.geometry.specs.declared.Sense.{Sense}
-use Rattle.geometry.proofs.Extremes.{NoLater}
+use Rattle.geometry.specs.Extreme.{Bounded}
+use Rattle.geometry.proofs.Extremes.{NoLater, not-better}
 use Rattle.extremes.specs.Exact.{windowArea, Position, extreme}
-use Rattle.extremes.proofs.Candidates.{Bounded}
-use Rattle.extremes.proofs.Searches.{not-better, extreme-best}
+use Rattle.extremes.proofs.Searches.{extreme-best}
 
 -- b is an extreme over all positions, with its window; for the greatest `none-better` says that no area is more than b's, for the least that
 -- none is less

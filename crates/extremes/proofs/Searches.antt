@@ -13,20 +13,16 @@ use Rattle.geometry.specs.declared.Sense.{Sense}
 use Rattle.geometry.specs.declared.Sense.the-variants.{Greatest, Least}
 use Rattle.geometry.specs.Layout.{Disjoint, rectsOf, Drawn}
 use Rattle.buffers.specs.Written.{Front}
-use Rattle.geometry.specs.Extreme.{better, NoBetter, spotAt}
-use Rattle.geometry.proofs.Extremes.{NoLater, better-neither, IsBest, Start, start-at, start-in, rows-best-of-all, best-of-fewer, best-same, best-unique, Dispensable}
+use Rattle.geometry.specs.Extreme.{better, NoBetter, Bounded, spotAt}
+use Rattle.geometry.proofs.Extremes.{NoLater, not-better, better-neither, IsBest, Start, start-at, start-in, rows-best-of-all, best-of-fewer, best-same, best-unique, Dispensable}
 use Rattle.extremes.specs.Exact.{windowArea, positions, Position, extreme, exactRun}
 use Rattle.extremes.specs.Search.{candidates, leadingInRows, searched}
 use Rattle.buffers.proofs.Fronts.{front-take}
-use Rattle.extremes.proofs.Candidates.{Better, Bounded, FirstBest, at-start, candidate-across, candidate-up}
+use Rattle.extremes.proofs.Candidates.{Better, FirstBest, at-start, candidate-across, candidate-up}
 use Rattle.extremes.proofs.Tried.{candidates-complete, candidates-within}
 use Rattle.extremes.proofs.Leading.{Listed, leading-best}
 
 -- what the tests say
-pub not-better : (s : Sense) (a b : ℕ) → NoBetter s a b → Bounded s a b
-not-better Greatest a b e = ltb-false b a e
-not-better Least a b e = ltb-false a b e
-
 worse : (s : Sense) (a b : ℕ) → NoBetter s a b → (a ≡ b → ⊥) → Better s b a
 worse Greatest a b e h = omega (arith, ltb-false b a e)
 worse Least a b e h = omega (arith, ltb-false a b e)

@@ -29,3 +29,8 @@ extreme s rs n w = bestInRows s (windowArea rs w) 1 (positions n w) (positions n
 -- the exact run: M and its window, the minimum and its window
 abbrev pub exactRun : List Rect → (n w : ℕ) → Extremes
 exactRun rs n w = record { greatest = extreme Greatest rs n w; least = extreme Least rs n w }
+
+-- the extreme of a sense
+abbrev pub extremeIn : Sense → Extremes → Spot
+extremeIn Greatest e = e .greatest
+extremeIn Least e = e .least

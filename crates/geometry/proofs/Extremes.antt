@@ -12,7 +12,7 @@ use Rattle.laws.proofs.Tests.{le-or-lt, true-false}
 use Rattle.geometry.specs.declared.Spot.{Spot}
 use Rattle.geometry.specs.declared.Sense.{Sense}
 use Rattle.geometry.specs.declared.Sense.the-variants.{Greatest, Least}
-use Rattle.geometry.specs.Extreme.{better, NoBetter, spotAt, replaced, bestInRow, bestInRows}
+use Rattle.geometry.specs.Extreme.{better, NoBetter, Bounded, spotAt, replaced, bestInRow, bestInRows}
 
 -- ---- one step
 
@@ -24,6 +24,15 @@ pub step-skip : (s : Sense) (old new : Spot) → better s (new .area) (old .area
 step-skip s old new e = rw (e, replaced)
 
 -- ---- the order of areas
+
+-- what the test says
+pub not-better : (s : Sense) (a b : ℕ) → NoBetter s a b → Bounded s a b
+not-better Greatest a b e = ltb-false b a e
+not-better Least a b e = ltb-false a b e
+
+pub bounded : (s : Sense) (a b : ℕ) → Bounded s a b → NoBetter s a b
+bounded Greatest a b h = le-ltb b a h
+bounded Least a b h = le-ltb a b h
 
 -- neither is better: they are the same
 pub better-neither : (s : Sense) (a b : ℕ) → better s a b ≡ false → better s b a ≡ false → a ≡ b

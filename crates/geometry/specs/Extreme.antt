@@ -1,6 +1,6 @@
 -- The one way in which an extreme is taken: rows in order, in a row columns in order, replaced only by a strictly better area.
 -- So the window that it names has the least y, then the least x, unless the one that stood before is as good.
-use Prim.Native.Nat.{ℕ, zero, suc, _*_}
+use Prim.Native.Nat.{ℕ, zero, suc, _*_, _≤_}
 use mathlib.Core.Path.{_≡_}
 use mathlib.Core.Bool.{Bool, true, false}
 use mathlib.Core.List.{List, _∷_}
@@ -17,6 +17,11 @@ better Least new old = ltb new old
 -- an area is no better than the one that stands
 abbrev pub NoBetter : Sense → ℕ → ℕ → Type 0
 NoBetter s new old = better s new old ≡ false
+
+-- the same as an inequality: for the greatest no more, for the least no less
+abbrev pub Bounded : Sense → ℕ → ℕ → Type 0
+Bounded Greatest new old = new ≤ old
+Bounded Least new old = old ≤ new
 
 -- the window at (x, y) with its value under f
 abbrev pub spotAt : (ℕ → ℕ → ℕ) → ℕ → ℕ → Spot

@@ -28,7 +28,7 @@ pub struct Head {
     pub lower: u64, // L, a bound in ten-thousandths
     pub upper: u64, // U, a bound in ten-thousandths
     pub accuracy: u64, // E, in thousandths
-    pub levels: u64, // V, the levels allowed in the quick run
+    pub levels: u64, // V, the levels that each quick run may do
 }
 
 // What a line spells. Unknown is a line that is none of the spellings.

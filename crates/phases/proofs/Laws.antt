@@ -2,33 +2,48 @@
 use Prim.Native.Nat.{ℕ, zero, suc}
 use mathlib.Core.Path.{_≡_, refl, sym, ap, _∙_}
 use mathlib.Core.List.{List}
+use Rattle.geometry.specs.declared.Rect.{Rect}
+use Rattle.geometry.specs.declared.Sense.{Sense}
+use Rattle.geometry.specs.declared.Sense.the-variants.{Greatest, Least}
 use Rattle.geometry.specs.Layout.{rectsOf}
+use Rattle.extremes.specs.Exact.{extreme, exactRun, extremeIn}
 use Rattle.fill.specs.declared.Verdict.{Verdict}
 use Rattle.fill.specs.Judge.{verdictOf}
 use Rattle.jobfile.specs.declared.Head.{Head}
 use Rattle.jobfile.specs.declared.Job.{Job}
 use Rattle.jobfile.specs.Limits.{unitLimits}
 use Rattle.jobfile.specs.Forms.{tileSide, tilesAcross}
+use Rattle.jobfile.specs.Faults.{Standing}
 use Rattle.jobfile.specs.File.{Outcome, refused, accepted, outcomeOf}
 use Rattle.jobfile.specs.Held.{asJob}
 use Rattle.unit.specs.declared.run.Answer.{Answer}
-use Rattle.unit.specs.Answering.{answerOf}
+use Rattle.unit.specs.Answering.{quickOf, answerOf, quickIn}
 use Rattle.unit.specs.Ready.{standingOf, jobStanding}
 use Rattle.unit.proofs.Accepting.{accepted-standing}
 use Rattle.unit.proofs.Running.{planAt}
 use Rattle.phases.specs.Phase.{phaseNumber, phaseOf}
+
+pub exact-in : (s : Sense) (rs : List Rect) (n w : ℕ) → extremeIn s (exactRun rs n w) ≡ extreme s rs n w
+exact-in Greatest rs n w = refl
+exact-in Least rs n w = refl
+
+pub quick-in : (s : Sense) (st : Standing) → quickOf s st ≡ quickIn s (answerOf st)
+unfolding answerOf
+quick-in Greatest st = refl
+quick-in Least st = refl
 
 pub verdict-at : (h : Head) (rects amounts : List ℕ) (tiles side : ℕ) {v : Verdict} → tiles ≡ tilesAcross h → side ≡ tileSide h →
     v ≡ verdictOf (rectsOf rects) amounts (planAt h tiles side) → v ≡ answerOf (standingOf h rects amounts) .verdict
 unfolding answerOf
 verdict-at h rects amounts tiles side et es e = rw (et, es) at e
 
-pub other-phase : (k : ℕ) (a : Answer) → (k ≡ 1 → ⊥) → (k ≡ 2 → ⊥) → (k ≡ 3 → ⊥) → 0 ≡ phaseNumber k a
-other-phase zero a p q r = refl
-other-phase (suc zero) a p q r = absurd (p refl)
-other-phase (suc (suc zero)) a p q r = absurd (q refl)
-other-phase (suc (suc (suc zero))) a p q r = absurd (r refl)
-other-phase (suc (suc (suc (suc n)))) a p q r = refl
+pub other-phase : (k : ℕ) (a : Answer) → (k ≡ 1 → ⊥) → (k ≡ 2 → ⊥) → (k ≡ 3 → ⊥) → (k ≡ 4 → ⊥) → 0 ≡ phaseNumber k a
+other-phase zero a p q r s = refl
+other-phase (suc zero) a p q r s = absurd (p refl)
+other-phase (suc (suc zero)) a p q r s = absurd (q refl)
+other-phase (suc (suc (suc zero))) a p q r s = absurd (r refl)
+other-phase (suc (suc (suc (suc zero)))) a p q r s = absurd (s refl)
+other-phase (suc (suc (suc (suc (suc n))))) a p q r s = refl
 
 -- a phase that was told by a test
 pub told-phase : (k m : ℕ) (a : Answer) {x : ℕ} → k ≡ m → x ≡ phaseNumber m a → x ≡ phaseNumber k a

@@ -1,14 +1,18 @@
 // The phases of a job by themselves, for the benchmark. Each gives one number of
 // the answer, so that no phase can be left out.
+use extremes::Extremes;
 use fill::Plan;
 use fill::Verdict;
+use geometry::Sense;
+use geometry::Spot;
 use jobfile::Head;
 use jobfile::Job;
 use zoom::Asked;
 ghost use mathlib.Core.Path.{_≡_};
 ghost use Rattle.jobfile.specs.Limits.{unitLimits};
 ghost use Rattle.jobfile.specs.File.{outcomeOf};
-ghost use Rattle.unit.specs.Answering.{answerOf};
+ghost use Rattle.extremes.specs.Exact.{extremeIn};
+ghost use Rattle.unit.specs.Answering.{answerOf, quickIn};
 ghost use Rattle.unit.specs.Ready.{Ready, Readable, standingOf, jobStanding};
 ghost use Rattle.phases.specs.Phase.{verdictNumber, phaseNumber, phaseOf};
 
@@ -21,22 +25,31 @@ fn greatest_area(head: Head, rects: &[u64], amounts: &[u64]) -> u64
     exact.greatest.area
 }
 
-// The exact and the quick run: the ceiling.
-fn ceiling(head: Head, rects: &[u64], amounts: &[u64]) -> u64
+fn extreme_in(sense: Sense, e: Extremes) -> Spot
+    ensures { λ r. ⌜ r ≡ extremeIn sense e ⌝ }
+{
+    match sense {
+        Sense::Greatest => e.greatest,
+        Sense::Least => e.least,
+    }
+}
+
+// The exact run and the quick run for an extreme: the ceiling or the low end.
+fn limit(sense: Sense, head: Head, rects: &[u64], amounts: &[u64]) -> u64
     requires { ⌜ Ready head (now rects) (now amounts) ⌝ }
-    ensures { λ r. ⌜ r ≡ answerOf (standingOf head (now (rects .entry)) (now (amounts .entry))) .quick .last .limit ⌝ }
+    ensures { λ r. ⌜ r ≡ quickIn sense (answerOf (standingOf head (now (rects .entry)) (now (amounts .entry)))) .last .limit ⌝ }
 {
     let size = head.size;
     let window = head.window;
     let exact = extremes::exact_run(rects, size, window);
-    let greatest = exact.greatest;
+    let m = extreme_in(sense, exact);
     let asked = Asked {
         size,
         window,
         accuracy: head.accuracy,
         levels: head.levels,
     };
-    let quick = zoom::quick_run(rects, asked, greatest);
+    let quick = zoom::quick_run(sense, rects, asked, m);
     quick.last.limit
 }
 
@@ -76,9 +89,12 @@ fn phase_number(phase: u64, head: Head, rects: &[u64], amounts: &[u64]) -> u64
         return greatest_area(head, rects, amounts);
     }
     if phase == 2 {
-        return ceiling(head, rects, amounts);
+        return limit(Sense::Greatest, head, rects, amounts);
     }
     if phase == 3 {
+        return limit(Sense::Least, head, rects, amounts);
+    }
+    if phase == 4 {
         return judged_number(head, rects, amounts);
     }
     0
@@ -96,8 +112,9 @@ fn job_phase(phase: u64, job: Job) -> u64
     phase_number(phase, head, &rects[..numbers], &amounts[..tiles])
 }
 
-// Reads a file, and runs one phase of an accepted one: 1 the exact run, 2 that
-// and the quick run, 3 the verdict, any other none.
+// Reads a file, and runs one phase of an accepted one: 1 the exact run, 2 and 3
+// that and the quick run for the greatest or the least window, 4 the verdict, any
+// other none.
 #[no_mangle]
 pub extern "C" fn density_phase(file: &[u8], phase: u64) -> u64
     ensures { λ r. ⌜ r ≡ phaseOf phase (outcomeOf unitLimits (now (file .entry))) ⌝ }

@@ -17,8 +17,8 @@ use Rattle.jobfile.specs.Forms.{headPattern, rectPattern, fillPattern, endPatte
 use Rattle.jobfile.specs.Faults.{shapeFault, fillFault, lineFault, standsAfter}
 use Rattle.jobfile.specs.File.{readLines, outcomeOf}
 use Rattle.unit.specs.Answering.{answerOf, textOf}
-use Rattle.unit.specs.Cases.{paperRows, byteRows}
+use Rattle.unit.specs.Cases.{phaseRows, printedLines, byteRows}
 
-pub cases : foundIn (paperRows ++ byteRows) ≡ statedIn (paperRows ++ byteRows)
-unfolding sum covered bestInRow bestInRows extreme levelOf levelAt runFrom quickRun trailingZeros clearOfAll failingInRow failingInRows standardFailing marginFailing bytes pieces decimal decimalIn digitsOf pastDigits valueFrom sameBytes spell readAs headPattern rectPattern fillPattern endPattern formOf shapeFault fillFault lineFault standsAfter readLines outcomeOf answerOf textOf
+pub cases : foundIn (phaseRows ++ byteRows) ≡ statedIn (phaseRows ++ byteRows)
+unfolding sum covered bestInRow bestInRows extreme levelOf levelAt runFrom quickRun trailingZeros clearOfAll failingInRow failingInRows standardFailing marginFailing bytes pieces decimal decimalIn digitsOf pastDigits valueFrom sameBytes spell readAs headPattern rectPattern fillPattern endPattern formOf shapeFault fillFault lineFault standsAfter readLines outcomeOf answerOf textOf printedLines
 cases = refl

@@ -6,22 +6,23 @@ use mathlib.Core.List.{List, [], _∷_}
 use native.Mathlib.Nat.{mul-le-mul-right}
 use native.Mathlib.Omega.{arith}
 use lib.ListN.{getD}
-use borrow.Author.Tests.{ltb-false}
 use Rattle.geometry.specs.declared.Rect.{Rect}
 use Rattle.geometry.specs.declared.Spot.{Spot}
 use Rattle.geometry.specs.declared.Sense.{Sense}
 use Rattle.geometry.specs.declared.Sense.the-variants.{Greatest, Least}
-use Rattle.extremes.specs.Exact.{extreme, exactRun}
+use Rattle.geometry.proofs.Extremes.{not-better}
+use Rattle.extremes.specs.Exact.{extreme, extremeIn}
 use Rattle.extremes.proofs.Promises.{extreme-over-all}
 use Rattle.zoom.specs.declared.End.{End}
 use Rattle.zoom.specs.declared.End.the-variants.{Met, Stopped, Exact}
+use Rattle.zoom.specs.declared.Level.{Level}
 use Rattle.zoom.specs.declared.Quick.{Quick}
-use Rattle.zoom.specs.Run.{lastLevel, levelStep, endNumber, quickRun}
+use Rattle.zoom.specs.Run.{lastLevel, levelStep, lowEnd, highEnd, endNumber}
 use Rattle.zoom.specs.Grid.{AtStart}
 use Rattle.zoom.proofs.Steps.{step-positive}
 use Rattle.zoom.proofs.Starts.{start-fits, fits-start}
-use Rattle.zoom.proofs.Bracket.{Placed, Promised, Accurate, quick-run-promises, levels-at-most}
-use Rattle.zoom.proofs.RunEnd.{EndsAtLevel, run-end, floor-start, floor-best}
+use Rattle.zoom.proofs.Bracket.{Bracketing, Promised, Accurate, quick-run-promises, levels-at-most, named-start, named-over-starts, level-brackets, level-narrows}
+use Rattle.zoom.proofs.RunEnd.{EndsAtLevel, run-end}
 use Rattle.fill.specs.declared.Plan.{Plan}
 use Rattle.fill.specs.declared.Bound.{Bound}
 use Rattle.fill.specs.declared.Bound.the-variants.{Over, Under}
@@ -35,8 +36,8 @@ use Rattle.fill.proofs.Placing.{placement}
 use Rattle.jobfile.specs.declared.Head.{Head}
 use Rattle.jobfile.specs.Forms.{tileSide, tilesAcross}
 use Rattle.jobfile.specs.Faults.{Standing}
-use Rattle.unit.specs.Answering.{planOf, answerOf}
-use Rattle.unit.specs.Promise.{RealWindow, Earliest, distance, StartOf, EndsWith, ExactPromise, QuickPromise, FillPromise, Promises}
+use Rattle.unit.specs.Answering.{planOf, quickOf, answerOf, quickIn}
+use Rattle.unit.specs.Promise.{distance, StartOf, EndsWith, ExactPromise, levelIn, BracketPromise, LevelPromise, QuickPromise, FillPromise, Promises}
 
 -- what an accepted head and its amounts say: tiles fit the window and the layout, and no amount exceeds its tile's fillable area
 pub record Runs (st : Standing) : Type 0 where
@@ -90,24 +91,10 @@ number-broken (Broken c k l) b i j h = λ t. Broken (bound t) (column t) (row t)
 
 -- ---- the exact run
 
-real : (s : Sense) (st : Standing) → RealWindow st (extreme s (st .shapes) (st .head .size) (st .head .window))
-real s st =
-    let p = extreme-over-all s (st .shapes) (st .head .size) (st .head .window) in
-    record { position = p .position; area = p .area-is }
-
-earliest : (s : Sense) (st : Standing) → Earliest st (extreme s (st .shapes) (st .head .size) (st .head .window))
-earliest s st x y p = extreme-over-all s (st .shapes) (st .head .size) (st .head .window) .first x y p
-
-exact-kept : (st : Standing) → ExactPromise st (exactRun (st .shapes) (st .head .size) (st .head .window))
-exact-kept st =
-    record {
-      greatest = real Greatest st;
-      none-more = extreme-over-all Greatest (st .shapes) (st .head .size) (st .head .window) .none-better;
-      greatest-first = earliest Greatest st;
-      least = real Least st;
-      none-less = extreme-over-all Least (st .shapes) (st .head .size) (st .head .window) .none-better;
-      least-first = earliest Least st;
-    }
+exact-kept : (s : Sense) (st : Standing) → ExactPromise s st (extreme s (st .shapes) (st .head .size) (st .head .window))
+exact-kept s st =
+    let m = extreme-over-all s (st .shapes) (st .head .size) (st .head .window) in
+    record { window = record { position = m .position; area = m .area-is }; none-better = m .none-better; first = m .first }
 
 -- ---- the quick run
 
@@ -132,29 +119,58 @@ start-of st j b p a =
       };
     }
 
-quick-kept : (st : Standing) → Runs st → let h = st .head in
-    QuickPromise st (quickRun Greatest (st .shapes) (h .size) (h .window) (h .accuracy) (h .levels)) (extreme Greatest (st .shapes) (h .size) (h .window) .area)
-quick-kept st r =
+bracket-kept : (s : Sense) (st : Standing) (v : Level) → Bracketing s (st .shapes) (st .head .size) (st .head .window) v →
+    BracketPromise s st v (extreme s (st .shapes) (st .head .size) (st .head .window) .area)
+bracket-kept s st v b =
+    let p = b .named in
+    record { named = record { position = record { across = p .across; down = p .down }; area = p .area }; ends = b .bracket }
+
+level-kept : (s : Sense) (st : Standing) → Runs st → (j : ℕ) → j ≤ lastLevel (st .head .window) →
+    LevelPromise s st j (extreme s (st .shapes) (st .head .size) (st .head .window) .area)
+level-kept s st r j h =
     record {
-      floor = record { position = record { across = named .across; down = named .down }; area = named .area };
-      floor-below = p .brackets .low;
-      ceiling-above = p .brackets .high;
-      met = λ e. midpoint (h .accuracy) (extreme Greatest (st .shapes) n w .area) (q .last .named .area) (q .last .limit) (p .accurate (number-end (q .end) Met e));
-      some-level = ended .some;
-      levels-done = levels-at-most Greatest (st .shapes) n w (h .accuracy) (h .levels) (r .some-level);
-      level-exists = λ j k. start j k .0;
-      floor-start = λ j k. start-of st j (q .last .named) (step j k) (start j k .1);
-      floor-largest = λ j k x y a.
+      bracket = bracket-kept s st (levelIn s st j) (level-brackets s rs n w (r .some-window) j h (r .window-fits));
+      named-start = start-of st j (levelIn s st j .named) step (named-start s rs n w (r .some-window) j h);
+      none-better = λ x y a.
           rw (a .across, a .down)
-          (ltb-false _ _
-          (floor-best Greatest (st .shapes) n w (h .accuracy) (h .levels) (r .some-window) (r .window-fits) j (k .done) (other j k) (a .column) (a .row)
-          (fits-start n w (levelStep w j) (a .column) (step j k) (omega (arith, a .across, a .position .across)))
-          (fits-start n w (levelStep w j) (a .row) (step j k) (omega (arith, a .down, a .position .down)))));
+          (not-better s _ _
+          (named-over-starts s rs n w (r .some-window) j h (a .column) (a .row)
+          (fits-start n w (levelStep w j) (a .column) step (omega (arith, a .across, a .position .across)))
+          (fits-start n w (levelStep w j) (a .row) step (omega (arith, a .down, a .position .down)))));
+    }
+  where
+    rs : List Rect
+    rs = st .shapes
+
+    n : ℕ
+    n = st .head .size
+
+    w : ℕ
+    w = st .head .window
+
+    step : 1 ≤ levelStep (st .head .window) j
+    step = step-positive w j (r .some-window) h
+
+quick-kept : (s : Sense) (st : Standing) → Runs st →
+    QuickPromise s st (quickOf s st) (extreme s (st .shapes) (st .head .size) (st .head .window) .area)
+quick-kept s st r =
+    record {
+      bracket = bracket-kept s st (q .last) (p .ends);
+      met = λ e. midpoint (h .accuracy) (extreme s rs n w .area) (lowEnd s (q .last)) (highEnd s (q .last)) (p .accurate (number-end (q .end) Met e));
+      some-level = ended .some;
+      levels-done = levels-at-most s rs n w (h .accuracy) (h .levels) (r .some-level);
+      level-exists = λ j k. ended .level j (k .done) (other j k) .0;
+      last-level = λ j k. ended .level j (k .done) (other j k) .1;
       exact-ends = λ e. ended .exact (number-end (q .end) Exact e);
+      each-level = λ j k. level-kept s st r j k;
+      narrows = λ j k. level-narrows s rs n w (r .some-window) j k;
     }
   where
     h : Head
     h = st .head
+
+    rs : List Rect
+    rs = st .shapes
 
     n : ℕ
     n = st .head .size
@@ -163,25 +179,16 @@ quick-kept st r =
     w = st .head .window
 
     q : Quick
-    q = quickRun Greatest (st .shapes) (st .head .size) (st .head .window) (st .head .accuracy) (st .head .levels)
+    q = quickOf s st
 
-    p : Promised Greatest (st .shapes) (st .head .size) (st .head .window) (st .head .accuracy) q
-    p = quick-run-promises Greatest (st .shapes) n w (h .accuracy) (h .levels) (r .some-window) (r .window-fits)
+    p : Promised s (st .shapes) (st .head .size) (st .head .window) (st .head .accuracy) q
+    p = quick-run-promises s rs n w (h .accuracy) (h .levels) (r .some-window) (r .window-fits)
 
-    named : Placed (st .shapes) (st .head .size) (st .head .window) (q .last .named)
-    named = p .brackets .named
-
-    ended : EndsAtLevel Greatest (st .shapes) (st .head .size) (st .head .window) q
-    ended = run-end Greatest (st .shapes) n w (h .accuracy) (h .levels) (r .some-window) (r .window-fits)
+    ended : EndsAtLevel s (st .shapes) (st .head .size) (st .head .window) q
+    ended = run-end s rs n w (h .accuracy) (h .levels) (r .some-window) (r .window-fits)
 
     other : (j : ℕ) → EndsWith q j → q .end ≡ Exact → ⊥
     other j k e = k .not-exact (ap endNumber e)
-
-    start : (j : ℕ) → EndsWith q j → (j ≤ lastLevel (st .head .window)) × AtStart (st .shapes) (st .head .size) (st .head .window) (levelStep (st .head .window) j) (q .last .named)
-    start j k = floor-start Greatest (st .shapes) n w (h .accuracy) (h .levels) (r .some-window) (r .window-fits) j (k .done) (other j k)
-
-    step : (j : ℕ) → EndsWith q j → 1 ≤ levelStep (st .head .window) j
-    step j k = step-positive w j (r .some-window) (start j k .0)
 
 -- ---- the fill
 
@@ -236,4 +243,12 @@ fill-kept st k =
 
 pub promises-kept : (st : Standing) → Runs st → Promises st (answerOf st)
 unfolding answerOf
-promises-kept st k = record { exact = exact-kept st; quick = quick-kept st k; fill = fill-kept st k }
+promises-kept st k = record { exact = exact; quick = quick; fill = fill-kept st k }
+  where
+    exact : (s : Sense) → ExactPromise s st (extremeIn s (answerOf st .exact))
+    exact Greatest = exact-kept Greatest st
+    exact Least = exact-kept Least st
+
+    quick : (s : Sense) → QuickPromise s st (quickIn s (answerOf st)) (extremeIn s (answerOf st .exact) .area)
+    quick Greatest = quick-kept Greatest st k
+    quick Least = quick-kept Least st k

@@ -1,7 +1,8 @@
--- Document 01, "The program": what an accepted job is answered, and the four lines that say it.
+-- Document 01, "The program", with the line of document 02's request 1: what an accepted job is answered, and the five lines that say it.
 use Prim.Native.Nat.{ℕ}
 use mathlib.Core.List.{List, [], _∷_, _++_}
-use Rattle.geometry.specs.declared.Sense.the-variants.{Greatest}
+use Rattle.geometry.specs.declared.Sense.{Sense}
+use Rattle.geometry.specs.declared.Sense.the-variants.{Greatest, Least}
 use Rattle.geometry.specs.Extreme.{spotNumbers}
 use Rattle.extremes.specs.declared.Extremes.{Extremes}
 use Rattle.extremes.specs.Exact.{exactRun}
@@ -28,34 +29,51 @@ abbrev pub planOf : Head → Plan
 planOf h =
     record { across = tilesAcross h; cut = h .cut; side = tileSide h; window = h .window; lower = h .lower; upper = h .upper }
 
--- the exact run, the quick run for the greatest window, the density of its bracket and the verdict on the fill
+-- the quick run for an extreme; both have the head's accuracy and levels, and each ends by its own test
+abbrev pub quickOf : Sense → Standing → Quick
+quickOf s st = let h = st .head in quickRun s (st .shapes) (h .size) (h .window) (h .accuracy) (h .levels)
+
+-- the exact run, the quick runs for the greatest and for the least window, the density of the first one's bracket and the verdict on the fill
 unfoldable pub answerOf : Standing → Answer
 answerOf st =
     let h = st .head in
-    let q = quickRun Greatest (st .shapes) (h .size) (h .window) (h .accuracy) (h .levels) in
+    let q = quickOf Greatest st in
     record {
       exact = exactRun (st .shapes) (h .size) (h .window);
-      quick = q;
+      greatest = q;
+      least = quickOf Least st;
       density = density (h .window) (q .last .named .area) (q .last .limit);
       verdict = verdictOf (st .shapes) (st .amounts) (planOf h);
     }
 
--- after max, min and floor stand area, x, y
+-- the quick run of a sense
+abbrev pub quickIn : Sense → Answer → Quick
+quickIn Greatest a = a .greatest
+quickIn Least a = a .least
+
+-- after max, min, floor and high stand area, x, y
 abbrev pub exactLine : Extremes → List ℕ
 exactLine e = spell (bytes "(exact (max # # #) (min # # #))\n") (spotNumbers (e .greatest) (spotNumbers (e .least) []))
 
--- the paper's word for each end
-abbrev pub zoomHead : End → List ℕ
-zoomHead Met = bytes "(zoom met"
-zoomHead Stopped = bytes "(zoom stopped"
-zoomHead Exact = bytes "(zoom exact"
+-- the papers' word for the quick run of each extreme, and for each end
+abbrev pub zoomWord : Sense → List ℕ
+zoomWord Greatest = bytes "(zoom "
+zoomWord Least = bytes "(zoommin "
 
-abbrev pub levelPart : (done : ℕ) → Level → List ℕ
-levelPart done v =
+abbrev pub endWord : End → List ℕ
+endWord Met = bytes "met"
+endWord Stopped = bytes "stopped"
+endWord Exact = bytes "exact"
+
+-- the bracket of the last level, its lower end first
+abbrev pub levelPart : Sense → (done : ℕ) → Level → List ℕ
+levelPart Greatest done v =
     spell (bytes " (levels #) (floor # # #) (ceiling #) (kept #))\n") (done ∷ spotNumbers (v .named) (v .limit ∷ v .kept ∷ []))
+levelPart Least done v =
+    spell (bytes " (levels #) (low #) (high # # #) (kept #))\n") (done ∷ v .limit ∷ spotNumbers (v .named) (v .kept ∷ []))
 
-abbrev pub zoomLine : Quick → List ℕ
-zoomLine q = zoomHead (q .end) ++ levelPart (q .done) (q .last)
+abbrev pub zoomLine : Sense → Quick → List ℕ
+zoomLine s q = zoomWord s ++ endWord (q .end) ++ levelPart s (q .done) (q .last)
 
 abbrev pub densityLine : ℕ → List ℕ
 densityLine r = spell (bytes "(density #)\n") (r ∷ [])
@@ -73,6 +91,7 @@ verdictLine Safe = bytes "(fill safe)\n"
 verdictLine (Broken b i j) = bytes "(fill broken" ++ failingStart b i j
 verdictLine (Undecided b i j) = bytes "(fill undecided" ++ failingStart b i j
 
--- the four lines
+-- the five lines
 unfoldable pub textOf : Answer → List ℕ
-textOf a = exactLine (a .exact) ++ zoomLine (a .quick) ++ densityLine (a .density) ++ verdictLine (a .verdict)
+textOf a =
+    exactLine (a .exact) ++ zoomLine Greatest (a .greatest) ++ zoomLine Least (a .least) ++ densityLine (a .density) ++ verdictLine (a .verdict)

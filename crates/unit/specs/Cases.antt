@@ -1,5 +1,5 @@
--- Document 01, "Proved cases": the table of its rows, which stand beside the definitions, and rows from a file's bytes to what is printed.
--- proofs/Cases.antt shows that all of them follow.
+-- The cases: document 01's rows A1 to Z and our own for the least window, each stated beside its definitions, and files by their bytes with what
+-- is printed. proofs/Cases.antt shows that all of them follow.
 use Prim.Native.Nat.{ℕ}
 use Prim.Native.String.{String}
 use mathlib.Core.List.{List, [], _∷_, _++_}
@@ -10,21 +10,31 @@ use Rattle.fill.specs.Cases.{fillRows}
 use Rattle.spelling.specs.Text.{bytes}
 use Rattle.unit.specs.Whole.{printedFor}
 
--- the paper's rows, A1 to Z
-abbrev pub paperRows : List Row
-paperRows = exactRows ++ zoomRows ++ fillRows
+-- the rows of each phase
+abbrev pub phaseRows : List Row
+phaseRows = exactRows ++ zoomRows ++ fillRows
+
+-- an answer by its lines; 10 is the line feed
+unfoldable pub printedLines : List String → List ℕ
+printedLines [] = []
+printedLines (l ∷ ls) = bytes l ++ 10 ∷ printedLines ls
 
 -- what the program prints for a file
 abbrev pub prints : String → List ℕ
 prints file = printedFor (bytes file)
 
--- from bytes: job A's four lines, the other ends and verdicts, and refusals with their number and line
+-- from bytes: job A's five lines, the other ends and verdicts, and refusals with their number and line
 abbrev pub byteRows : List Row
 byteRows =
     row "job A"
     (prints "(job (size 8) (window 4) (cut 2) (gap 1) (bounds 0 5000) (zoom 0 6))\n(rect 3 3 5 5)\n(fill 0 0 2)\n(end)\n")
-    (bytes
-    "(exact (max 4 1 1) (min 1 0 0))\n(zoom met (levels 2) (floor 4 2 2) (ceiling 4) (kept 0))\n(density 2500)\n(fill safe)\n")
+    (printedLines
+    ("(exact (max 4 1 1) (min 1 0 0))"
+    ∷ "(zoom met (levels 2) (floor 4 2 2) (ceiling 4) (kept 0))"
+    ∷ "(zoommin exact (levels 4) (low 1) (high 1 0 0) (kept 0))"
+    ∷ "(density 2500)"
+    ∷ "(fill safe)"
+    ∷ []))
     ∷ row "empty file" (prints "") (bytes "(refused 12 1)\n")
     ∷ row "one line feed" (prints "\n") (bytes "(refused 2 1)\n")
     ∷ row "no end"
@@ -60,20 +70,65 @@ byteRows =
     ∷ row "bytes after the end" (prints "(job (size 8) (window 4) (cut 2) (gap 1) (bounds 0 5000) (zoom 0 6))\n(end)\n(end)") (bytes "(refused 2 3)\n")
     ∷ row "stopped at one level"
     (prints "(job (size 8) (window 4) (cut 2) (gap 1) (bounds 0 5000) (zoom 0 1))\n(rect 3 3 5 5)\n(end)\n")
-    (bytes
-    "(exact (max 4 1 1) (min 1 0 0))\n(zoom stopped (levels 1) (floor 1 0 0) (ceiling 4) (kept 3))\n(density 1562)\n(fill safe)\n")
+    (printedLines
+    ("(exact (max 4 1 1) (min 1 0 0))"
+    ∷ "(zoom stopped (levels 1) (floor 1 0 0) (ceiling 4) (kept 3))"
+    ∷ "(zoommin stopped (levels 1) (low 0) (high 1 0 0) (kept 4))"
+    ∷ "(density 1562)"
+    ∷ "(fill safe)"
+    ∷ []))
     ∷ row "exact after the last level"
     (prints "(job (size 5) (window 3) (cut 3) (gap 1) (bounds 0 10000) (zoom 0 6))\n(rect 2 2 4 4)\n(end)\n")
-    (bytes
-    "(exact (max 4 1 1) (min 1 0 0))\n(zoom exact (levels 2) (floor 4 1 1) (ceiling 4) (kept 0))\n(density 4444)\n(fill safe)\n")
+    (printedLines
+    ("(exact (max 4 1 1) (min 1 0 0))"
+    ∷ "(zoom exact (levels 2) (floor 4 1 1) (ceiling 4) (kept 0))"
+    ∷ "(zoommin exact (levels 2) (low 1) (high 1 0 0) (kept 0))"
+    ∷ "(density 4444)"
+    ∷ "(fill safe)"
+    ∷ []))
     ∷ row "stopped before the exact search"
     (prints "(job (size 5) (window 3) (cut 3) (gap 1) (bounds 0 10000) (zoom 0 1))\n(rect 2 2 4 4)\n(end)\n")
-    (bytes
-    "(exact (max 4 1 1) (min 1 0 0))\n(zoom stopped (levels 1) (floor 1 0 0) (ceiling 4) (kept 1))\n(density 2777)\n(fill safe)\n")
+    (printedLines
+    ("(exact (max 4 1 1) (min 1 0 0))"
+    ∷ "(zoom stopped (levels 1) (floor 1 0 0) (ceiling 4) (kept 1))"
+    ∷ "(zoommin stopped (levels 1) (low 0) (high 1 0 0) (kept 1))"
+    ∷ "(density 2777)"
+    ∷ "(fill safe)"
+    ∷ []))
+    ∷ row "the least met above 0, a level later than the greatest"
+    (prints "(job (size 6) (window 4) (cut 2) (gap 1) (bounds 0 10000) (zoom 250 3))\n(rect 0 3 5 6)\n(end)\n")
+    (printedLines
+    ("(exact (max 12 0 2) (min 3 2 0))"
+    ∷ "(zoom met (levels 2) (floor 12 0 2) (ceiling 15) (kept 2))"
+    ∷ "(zoommin met (levels 3) (low 2) (high 3 2 0) (kept 1))"
+    ∷ "(density 8437)"
+    ∷ "(fill safe)"
+    ∷ []))
+    ∷ row "the least stopped, at one thousandth less"
+    (prints "(job (size 6) (window 4) (cut 2) (gap 1) (bounds 0 10000) (zoom 249 3))\n(rect 0 3 5 6)\n(end)\n")
+    (printedLines
+    ("(exact (max 12 0 2) (min 3 2 0))"
+    ∷ "(zoom met (levels 2) (floor 12 0 2) (ceiling 15) (kept 2))"
+    ∷ "(zoommin stopped (levels 3) (low 2) (high 3 2 0) (kept 1))"
+    ∷ "(density 8437)"
+    ∷ "(fill safe)"
+    ∷ []))
     ∷ row "broken under"
     (prints "(job (size 2) (window 1) (cut 1) (gap 0) (bounds 1 10000) (zoom 0 6))\n(fill 0 0 1)\n(end)\n")
-    (bytes "(exact (max 0 0 0) (min 0 0 0))\n(zoom met (levels 1) (floor 0 0 0) (ceiling 0) (kept 0))\n(density 0)\n(fill broken under 1 0)\n")
+    (printedLines
+    ("(exact (max 0 0 0) (min 0 0 0))"
+    ∷ "(zoom met (levels 1) (floor 0 0 0) (ceiling 0) (kept 0))"
+    ∷ "(zoommin met (levels 1) (low 0) (high 0 0 0) (kept 0))"
+    ∷ "(density 0)"
+    ∷ "(fill broken under 1 0)"
+    ∷ []))
     ∷ row "undecided under, one tile to the window"
     (prints "(job (size 1) (window 1) (cut 1) (gap 0) (bounds 1 10000) (zoom 0 6))\n(fill 0 0 1)\n(end)\n")
-    (bytes "(exact (max 0 0 0) (min 0 0 0))\n(zoom met (levels 1) (floor 0 0 0) (ceiling 0) (kept 0))\n(density 0)\n(fill undecided under 0 0)\n")
+    (printedLines
+    ("(exact (max 0 0 0) (min 0 0 0))"
+    ∷ "(zoom met (levels 1) (floor 0 0 0) (ceiling 0) (kept 0))"
+    ∷ "(zoommin met (levels 1) (low 0) (high 0 0 0) (kept 0))"
+    ∷ "(density 0)"
+    ∷ "(fill undecided under 0 0)"
+    ∷ []))
     ∷ []

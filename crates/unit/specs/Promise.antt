@@ -1,5 +1,6 @@
--- Demand 3: what the answer to an accepted job promises, whatever its shapes and numbers. An answer that is an enum is spoken of by the
--- paper's number and values. `Guarantee` in specs/Guarantee.antt makes it part of the unit's contracts.
+-- Demand 3: what the answer to an accepted job promises, whatever its shapes and numbers; what is promised of an extreme is promised of the
+-- greatest and of the least by one record. An answer that is an enum is spoken of by the paper's number and values. `Guarantee` in
+-- specs/Guarantee.antt makes it part of the unit's contracts.
 use Prim.Native.Nat.{ℕ, suc, _+_, _-_, _*_, _≤_, _<_}
 use mathlib.Core.Path.{_≡_}
 use mathlib.Core.Bool.{Bool}
@@ -7,10 +8,12 @@ use mathlib.Core.List.{[], _∷_}
 use mathlib.Core.Logic.{_⊎_}
 use lib.Dec.{T}
 use Rattle.geometry.specs.declared.Spot.{Spot}
-use Rattle.extremes.specs.declared.Extremes.{Extremes}
-use Rattle.extremes.specs.Exact.{windowArea, Position}
+use Rattle.geometry.specs.declared.Sense.{Sense}
+use Rattle.geometry.specs.Extreme.{Bounded}
+use Rattle.extremes.specs.Exact.{windowArea, Position, extremeIn}
+use Rattle.zoom.specs.declared.Level.{Level}
 use Rattle.zoom.specs.declared.Quick.{Quick}
-use Rattle.zoom.specs.Run.{lastLevel, levelStep, endNumber}
+use Rattle.zoom.specs.Run.{lastLevel, levelStep, levelAt, lowEnd, highEnd, Brackets, Narrows, endNumber}
 use Rattle.fill.specs.declared.Bound.{Bound}
 use Rattle.fill.specs.declared.Verdict.{Verdict}
 use Rattle.fill.specs.Judge.{boundNumber, verdictNumbers}
@@ -18,7 +21,7 @@ use Rattle.fill.specs.Placement.{Placement, placedSum, keeps}
 use Rattle.jobfile.specs.Forms.{tileSide}
 use Rattle.jobfile.specs.Faults.{Standing}
 use Rattle.unit.specs.declared.run.Answer.{Answer}
-use Rattle.unit.specs.Answering.{planOf}
+use Rattle.unit.specs.Answering.{planOf, quickIn}
 
 -- (x, y) is a whole-number window position of the job
 abbrev pub PositionOf : Standing → (x y : ℕ) → Type 0
@@ -49,15 +52,12 @@ Places st chosen = Placement (st .head .gap) (st .shapes) (st .amounts) (planOf 
 abbrev pub KeepsAt : Standing → (ℕ → ℕ → Bool) → Bound → (x y : ℕ) → Type 0
 KeepsAt st chosen b x y = T (keeps b (planOf (st .head)) (placedSum (st .shapes) chosen (st .head .window) x y))
 
--- the exact run: M is the area of the window it names, no position has more, and none before it has as much; its minimum likewise, and no
--- position has less
-pub record ExactPromise (st : Standing) (e : Extremes) : Type 0 where
-  pub greatest : RealWindow st (e .greatest)
-  pub none-more : (x y : ℕ) → PositionOf st x y → areaAt st x y ≤ e .greatest .area
-  pub greatest-first : Earliest st (e .greatest)
-  pub least : RealWindow st (e .least)
-  pub none-less : (x y : ℕ) → PositionOf st x y → e .least .area ≤ areaAt st x y
-  pub least-first : Earliest st (e .least)
+-- an extreme of the exact run: its area is that of the window it names; no position has more, or for the minimum less; and none before it has
+-- the same
+pub record ExactPromise (s : Sense) (st : Standing) (m : Spot) : Type 0 where
+  pub window : RealWindow st m
+  pub none-better : (x y : ℕ) → PositionOf st x y → Bounded s (areaAt st x y) (m .area)
+  pub first : Earliest st m
 
 -- (x, y) is a start of level j: on each axis a multiple of the level's step, up to N − W
 pub record StartOf (st : Standing) (j x y : ℕ) : Type 0 where
@@ -67,25 +67,46 @@ pub record StartOf (st : Standing) (j x y : ℕ) : Type 0 where
   pub down : y ≡ row * levelStep (st .head .window) j
   pub position : PositionOf st x y
 
+-- level j of a quick run, whether the run does it or ends before it
+abbrev pub levelIn : Sense → Standing → (j : ℕ) → Level
+levelIn s st j = levelAt s (st .shapes) (st .head .size) (st .head .window) j
+
+-- what a level says beside the extreme m, M or the minimum: F, or high, is the area of the window named, and F ≤ M ≤ C, or
+-- low ≤ minimum ≤ high
+pub record BracketPromise (s : Sense) (st : Standing) (v : Level) (m : ℕ) : Type 0 where
+  pub named : RealWindow st (v .named)
+  pub ends : Brackets s v m
+
+-- level j: its bracket; the window named is at one of the level's starts; and at none of them is a window better
+pub record LevelPromise (s : Sense) (st : Standing) (j m : ℕ) : Type 0 where
+  pub bracket : BracketPromise s st (levelIn s st j) m
+  pub named-start : StartOf st j (levelIn s st j .named .x) (levelIn s st j .named .y)
+  pub none-better : (x y : ℕ) → StartOf st j x y → Bounded s (areaAt st x y) (levelIn s st j .named .area)
+
 -- the run ended with level j, and not with the exact search
 pub record EndsWith (q : Quick) (j : ℕ) : Type 0 where
   pub done : q .done ≡ suc j
   pub not-exact : endNumber (q .end) ≡ 2 → ⊥
 
--- the quick run, beside the exact run's M. Its floor F is the area of the window it names, its ceiling is C, and F ≤ M ≤ C; "met" for
--- accuracy E bounds the midpoint, 1000 × |F + C − 2M| ≤ 2 × E × M; at least one level was done, and no more than are allowed or than there are; F is the largest standard area
--- of the level that the run ended with, at one of its starts, and after "exact" F, C and M are one number
-pub record QuickPromise (st : Standing) (q : Quick) (m : ℕ) : Type 0 where
-  pub floor : RealWindow st (q .last .named)
-  pub floor-below : q .last .named .area ≤ m
-  pub ceiling-above : m ≤ q .last .limit
-  pub met : endNumber (q .end) ≡ 0 → 1000 * distance (q .last .named .area + q .last .limit) (2 * m) ≤ 2 * st .head .accuracy * m
+-- a quick run, beside the extreme m of the exact run
+pub record QuickPromise (s : Sense) (st : Standing) (q : Quick) (m : ℕ) : Type 0 where
+  -- its last level, the exact search included: the window named is real, and m lies between the ends
+  pub bracket : BracketPromise s st (q .last) m
+  -- "met" for accuracy E bounds the midpoint of the ends: 1000 × |lower + upper end − 2m| ≤ 2 × E × m
+  pub met : endNumber (q .end) ≡ 0 →
+      1000 * distance (lowEnd s (q .last) + highEnd s (q .last)) (2 * m) ≤ 2 * st .head .accuracy * m
+  -- at least one level was done, and no more than V
   pub some-level : 1 ≤ q .done
   pub levels-done : q .done ≤ st .head .levels
+  -- a run that did not end with the exact search ended with one of the levels 0 to z, and its numbers are that level's
   pub level-exists : (j : ℕ) → EndsWith q j → j ≤ lastLevel (st .head .window)
-  pub floor-start : (j : ℕ) → EndsWith q j → StartOf st j (q .last .named .x) (q .last .named .y)
-  pub floor-largest : (j : ℕ) → EndsWith q j → (x y : ℕ) → StartOf st j x y → areaAt st x y ≤ q .last .named .area
+  pub last-level : (j : ℕ) → EndsWith q j → q .last ≡ levelIn s st j
+  -- after the exact search both ends are m
   pub exact-ends : endNumber (q .end) ≡ 2 → (q .last .named .area ≡ m) × (q .last .limit ≡ m)
+  -- every level from 0 to z, whether the run did it or not; from one to the next the lower end never falls and the upper one never rises. To the
+  -- exact search this follows, since its ends are m
+  pub each-level : (j : ℕ) → j ≤ lastLevel (st .head .window) → LevelPromise s st j m
+  pub narrows : (j : ℕ) → j < lastLevel (st .head .window) → Narrows s (levelIn s st j) (levelIn s st (suc j))
 
 -- the fill, whichever eligible unit squares it takes: after "safe" every position keeps both bounds, on the tile grid or off it; after
 -- "broken" the named window is a position and breaks the bound named; and there is at least one placement
@@ -96,7 +117,8 @@ pub record FillPromise (st : Standing) (v : Verdict) : Type 0 where
       KeepsAt st chosen b (i * tileSide (st .head)) (j * tileSide (st .head)) → ⊥
   pub placeable : (chosen : ℕ → ℕ → Bool) × Places st chosen
 
+-- the answer to an accepted job: both extremes, the quick run of each beside it, and the fill
 pub record Promises (st : Standing) (a : Answer) : Type 0 where
-  pub exact : ExactPromise st (a .exact)
-  pub quick : QuickPromise st (a .quick) (a .exact .greatest .area)
+  pub exact : (s : Sense) → ExactPromise s st (extremeIn s (a .exact))
+  pub quick : (s : Sense) → QuickPromise s st (quickIn s a) (extremeIn s (a .exact) .area)
   pub fill : FillPromise st (a .verdict)

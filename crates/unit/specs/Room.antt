@@ -8,11 +8,18 @@ numberRoom = 20
 abbrev pub exactRoom : ℕ
 exactRoom = 160
 
-abbrev pub endRoom : ℕ
-endRoom = 16
+-- the line of a quick run: its word, its end, its last level
+abbrev pub zoomWordRoom : ℕ
+zoomWordRoom = 9
 
-abbrev pub bracketRoom : ℕ
-bracketRoom = 176
+abbrev pub endRoom : ℕ
+endRoom = 7
+
+abbrev pub levelPartRoom : ℕ
+levelPartRoom = 176
+
+abbrev pub zoomRoom : ℕ
+zoomRoom = zoomWordRoom + endRoom + levelPartRoom
 
 abbrev pub densityRoom : ℕ
 densityRoom = 40
@@ -27,4 +34,4 @@ abbrev pub verdictRoom : ℕ
 verdictRoom = startRoom + 16
 
 abbrev pub answerRoom : ℕ
-answerRoom = exactRoom + (endRoom + bracketRoom) + densityRoom + verdictRoom
+answerRoom = exactRoom + zoomRoom + zoomRoom + densityRoom + verdictRoom

@@ -1,8 +1,9 @@
-// The answer's four lines, written by pattern into a lent buffer.
+// The answer's five lines, written by pattern into a lent buffer.
 use crate::run::Answer;
 use extremes::Extremes;
 use fill::Bound;
 use fill::Verdict;
+use geometry::Sense;
 use zoom::End;
 use zoom::Level;
 use zoom::Quick;
@@ -10,8 +11,8 @@ ghost use Prim.Native.Nat.{_+_, _*_, _≤_};
 ghost use mathlib.Core.List.{_++_};
 ghost use lib.ListN.{length};
 ghost use Rattle.spelling.specs.Pattern.{spell};
-ghost use Rattle.unit.specs.Answering.{exactLine, zoomHead, levelPart, zoomLine, densityLine, boundWord, failingStart, verdictLine, textOf};
-ghost use Rattle.unit.specs.Room.{numberRoom, exactRoom, endRoom, bracketRoom, densityRoom, boundRoom, startRoom, verdictRoom, answerRoom};
+ghost use Rattle.unit.specs.Answering.{exactLine, zoomWord, endWord, levelPart, zoomLine, densityLine, boundWord, failingStart, verdictLine, textOf};
+ghost use Rattle.unit.specs.Room.{numberRoom, exactRoom, zoomWordRoom, endRoom, levelPartRoom, zoomRoom, densityRoom, boundRoom, startRoom, verdictRoom, answerRoom};
 ghost use Rattle.unit.specs.Rendering.{WrittenIn};
 
 // Writes a pattern's text where there is room for the most digits that a number
@@ -47,45 +48,63 @@ pub(crate) fn write_word(word: &[u8], out: &mut [u8], at: usize) -> usize
     spelling::write_as(word, &none, out, at)
 }
 
-fn write_end(end: End, out: &mut [u8], at: usize) -> usize
-    requires { ⌜ at + endRoom ≤ length (now out) ⌝ }
-    ensures { λ r. ⌜ WrittenIn endRoom (now (out .entry)) at (zoomHead end) (now (out .exit)) r ⌝ }
+fn write_zoom_word(sense: Sense, out: &mut [u8], at: usize) -> usize
+    requires { ⌜ at + zoomWordRoom ≤ length (now out) ⌝ }
+    ensures { λ r. ⌜ WrittenIn zoomWordRoom (now (out .entry)) at (zoomWord sense) (now (out .exit)) r ⌝ }
 {
-    match end {
-        End::Met => write_word(b"(zoom met", out, at),
-        End::Stopped => write_word(b"(zoom stopped", out, at),
-        End::Exact => write_word(b"(zoom exact", out, at),
+    match sense {
+        Sense::Greatest => write_word(b"(zoom ", out, at),
+        Sense::Least => write_word(b"(zoommin ", out, at),
     }
 }
 
-fn write_level(done: u64, last: Level, out: &mut [u8], at: usize) -> usize
-    requires { ⌜ at + bracketRoom ≤ length (now out) ⌝ }
-    ensures { λ r. ⌜ WrittenIn bracketRoom (now (out .entry)) at (levelPart done last) (now (out .exit)) r ⌝ }
+fn write_end(end: End, out: &mut [u8], at: usize) -> usize
+    requires { ⌜ at + endRoom ≤ length (now out) ⌝ }
+    ensures { λ r. ⌜ WrittenIn endRoom (now (out .entry)) at (endWord end) (now (out .exit)) r ⌝ }
 {
-    let values = [
-        done,
-        last.named.area,
-        last.named.x,
-        last.named.y,
-        last.limit,
-        last.kept,
-    ];
-    write_line(
-        b" (levels #) (floor # # #) (ceiling #) (kept #))\n",
-        &values,
-        out,
-        at,
-    )
+    match end {
+        End::Met => write_word(b"met", out, at),
+        End::Stopped => write_word(b"stopped", out, at),
+        End::Exact => write_word(b"exact", out, at),
+    }
 }
 
-fn write_quick(q: Quick, out: &mut [u8], at: usize) -> usize
-    requires { ⌜ at + (endRoom + bracketRoom) ≤ length (now out) ⌝ }
-    ensures { λ r. ⌜ WrittenIn (endRoom + bracketRoom) (now (out .entry)) at (zoomLine q) (now (out .exit)) r ⌝ }
+fn write_level(sense: Sense, done: u64, last: Level, out: &mut [u8], at: usize) -> usize
+    requires { ⌜ at + levelPartRoom ≤ length (now out) ⌝ }
+    ensures { λ r. ⌜ WrittenIn levelPartRoom (now (out .entry)) at (levelPart sense done last) (now (out .exit)) r ⌝ }
+{
+    let named = last.named;
+    match sense {
+        Sense::Greatest => {
+            let values = [done, named.area, named.x, named.y, last.limit, last.kept];
+            write_line(
+                b" (levels #) (floor # # #) (ceiling #) (kept #))\n",
+                &values,
+                out,
+                at,
+            )
+        }
+        Sense::Least => {
+            let values = [done, last.limit, named.area, named.x, named.y, last.kept];
+            write_line(
+                b" (levels #) (low #) (high # # #) (kept #))\n",
+                &values,
+                out,
+                at,
+            )
+        }
+    }
+}
+
+fn write_quick(sense: Sense, q: Quick, out: &mut [u8], at: usize) -> usize
+    requires { ⌜ at + zoomRoom ≤ length (now out) ⌝ }
+    ensures { λ r. ⌜ WrittenIn zoomRoom (now (out .entry)) at (zoomLine sense q) (now (out .exit)) r ⌝ }
 {
     let end = q.end;
     let last = q.last;
-    let next = write_end(end, out, at);
-    write_level(q.done, last, out, next)
+    let after_word = write_zoom_word(sense, out, at);
+    let after_end = write_end(end, out, after_word);
+    write_level(sense, q.done, last, out, after_end)
 }
 
 fn write_density(density: u64, out: &mut [u8], at: usize) -> usize
@@ -142,16 +161,18 @@ fn write_verdict(v: Verdict, out: &mut [u8], at: usize) -> usize
     }
 }
 
-// Writes the four lines.
+// Writes the five lines.
 pub(crate) fn write_answer(a: Answer, out: &mut [u8]) -> usize
     requires { ⌜ answerRoom ≤ length (now out) ⌝ }
     ensures { λ r. ⌜ WrittenIn answerRoom (now (out .entry)) 0 (textOf a) (now (out .exit)) r ⌝ }
 {
     let exact = a.exact;
-    let quick = a.quick;
+    let greatest = a.greatest;
+    let least = a.least;
     let verdict = a.verdict;
     let first = write_exact(exact, out, 0);
-    let second = write_quick(quick, out, first);
-    let third = write_density(a.density, out, second);
-    write_verdict(verdict, out, third)
+    let second = write_quick(Sense::Greatest, greatest, out, first);
+    let third = write_quick(Sense::Least, least, out, second);
+    let fourth = write_density(a.density, out, third);
+    write_verdict(verdict, out, fourth)
 }

@@ -1,4 +1,4 @@
--- Demand 3 for the quick run: the named window is a position with that area, and the extreme of the exact run lies between floor and ceiling.
+-- Demand 3 for the quick run: the named window is a position with that area, and the extreme of the exact run lies between the two ends.
 -- Both are shown of every level, from level to level the bracket narrows, and a run keeps to the levels allowed.
 use Prim.Native.Nat.{ℕ, zero, suc, _+_, _-_, _*_, _/_, _≤_, _<_}
 use mathlib.Core.Path.{_≡_, refl, sym, ap, ap₂, _∙_, subst}
@@ -27,7 +27,7 @@ use Rattle.extremes.proofs.Promises.{extreme-over-all}
 use Rattle.zoom.specs.declared.End.the-variants.{Met}
 use Rattle.zoom.specs.declared.Level.{Level}
 use Rattle.zoom.specs.declared.Quick.{Quick}
-use Rattle.zoom.specs.Run.{lastLevel, levelStep, startsOn, bloated, shrunk, farArea, bestStart, levelOf, levelAt, lowEnd, highEnd, isMet, afterLevel, exactEnd, runFrom, quickRun}
+use Rattle.zoom.specs.Run.{lastLevel, levelStep, startsOn, bloated, shrunk, farWindow, farArea, bestStart, levelOf, levelAt, lowEnd, highEnd, Brackets, Narrows, isMet, afterLevel, exactEnd, runFrom, quickRun}
 use Rattle.geometry.specs.Sizes.{widest, largest}
 use Rattle.zoom.specs.Sizes.{LevelSmall}
 use Rattle.zoom.specs.Grid.{AtStart}
@@ -67,11 +67,11 @@ level-at-start s rs n w t b a =
     rw (level-searches s rs n w t b)
     (rows-are s (windowArea rs w) t (startsOn n w t) (startsOn n w t) b (AtStart rs n w t) a (λ i j h k. at-start rs n w t i j h k))
 
--- F, the area of the named window, is the level's best standard area where the window before is at a start of the level
-pub floor-of : (s : Sense) (rs : List Rect) (n w t : ℕ) (b : Spot) → AtStart rs n w t b →
+-- the area of the named window is the level's best standard area where the window before is at a start of the level
+pub level-best : (s : Sense) (rs : List Rect) (n w t : ℕ) (b : Spot) → AtStart rs n w t b →
     levelOf s rs n w t b .named .area ≡ bestStart s (windowArea rs w) t (startsOn n w t) .area
 unfolding levelOf
-floor-of s rs n w t b a = replaced-area s b best (subst (λ (c : Spot). NoBetter s (c .area) (best .area)) (sym (a .is)) seen)
+level-best s rs n w t b a = replaced-area s b best (subst (λ (c : Spot). NoBetter s (c .area) (best .area)) (sym (a .is)) seen)
   where
     best : Spot
     best = bestStart s (windowArea rs w) t (startsOn n w t)
@@ -79,7 +79,7 @@ floor-of s rs n w t b a = replaced-area s b best (subst (λ (c : Spot). NoBetter
     seen : NoBetter s (windowArea rs w (a .column * t) (a .row * t)) (best .area)
     seen = rows-see s (windowArea rs w) t (startsOn n w t) (startsOn n w t) (spotAt (windowArea rs w) 0 0) (a .column) (a .row) (a .across) (a .down)
 
--- C is no worse than any far area, and than any position
+-- the limit is no worse than any far area, and than any position
 pub level-sees : (s : Sense) (rs : List Rect) (n w t : ℕ) (b : Spot) (i j : ℕ) → i < startsOn n w t → j < startsOn n w t →
     NoBetter s (farArea s rs n w t (i * t) (j * t)) (levelOf s rs n w t b .limit)
 unfolding levelOf
@@ -110,26 +110,27 @@ far-narrows s rs n w t b c p =
 
 -- ---- a level's bracket
 
--- low ≤ m ≤ high, and the named window
-pub record Brackets (s : Sense) (rs : List Rect) (n w : ℕ) (v : Level) : Type 0 where
+-- the extreme is between the ends, and the window named is real
+pub record Bracketing (s : Sense) (rs : List Rect) (n w : ℕ) (v : Level) : Type 0 where
   pub named : Placed rs n w (v .named)
-  pub low : lowEnd s v ≤ extreme s rs n w .area
-  pub high : extreme s rs n w .area ≤ highEnd s v
+  pub bracket : Brackets s v (extreme s rs n w .area)
 
-brackets : (s : Sense) (rs : List Rect) (n w : ℕ) (v : Level) → Placed rs n w (v .named) → NoBetter s (extreme s rs n w .area) (v .limit) → Brackets s rs n w v
-brackets Greatest rs n w v p h =
-    record { named = p; low = ltb-false _ _ (placed-no-better Greatest rs n w (v .named) p); high = ltb-false _ _ h }
-brackets Least rs n w v p h = record { named = p; low = ltb-false _ _ h; high = ltb-false _ _ (placed-no-better Least rs n w (v .named) p) }
+brackets : (s : Sense) (v : Level) (m : ℕ) → NoBetter s (v .named .area) m → NoBetter s m (v .limit) → Brackets s v m
+brackets Greatest v m h k = record { low = ltb-false _ _ h; high = ltb-false _ _ k }
+brackets Least v m h k = record { low = ltb-false _ _ k; high = ltb-false _ _ h }
 
-brackets-of : (s : Sense) (rs : List Rect) (n w t : ℕ) (b : Spot) → 1 ≤ t → w ≤ n → AtStart rs n w t b → Brackets s rs n w (levelOf s rs n w t b)
-brackets-of s rs n w t b p q a =
-    brackets s rs n w (levelOf s rs n w t b) (start-placed rs n w t (levelOf s rs n w t b .named) p (level-at-start s rs n w t b a)) extreme-bounded
+bracketing : (s : Sense) (rs : List Rect) (n w : ℕ) (v : Level) → Placed rs n w (v .named) → NoBetter s (extreme s rs n w .area) (v .limit) → Bracketing s rs n w v
+bracketing s rs n w v p h = record { named = p; bracket = brackets s v (extreme s rs n w .area) (placed-no-better s rs n w (v .named) p) h }
+
+bracketing-of : (s : Sense) (rs : List Rect) (n w t : ℕ) (b : Spot) → 1 ≤ t → w ≤ n → AtStart rs n w t b → Bracketing s rs n w (levelOf s rs n w t b)
+bracketing-of s rs n w t b p q a =
+    bracketing s rs n w (levelOf s rs n w t b) (start-placed rs n w t (levelOf s rs n w t b .named) p (level-at-start s rs n w t b a)) extreme-bounded
   where
     extreme-bounded : NoBetter s (extreme s rs n w .area) (levelOf s rs n w t b .limit)
     extreme-bounded = let m = extreme-placed s rs n w in rw (m .area) (level-bounds s rs n w t b (extreme s rs n w .x) (extreme s rs n w .y) p q (m .across) (m .down))
 
-exact-brackets : (s : Sense) (rs : List Rect) (n w j : ℕ) (b : Spot) → Placed rs n w b → Brackets s rs n w (exactEnd s j b (extreme s rs n w) .last)
-exact-brackets s rs n w j b p = brackets s rs n w (exactEnd s j b m .last) (go (better s (m .area) (b .area)) refl) (better-self s (m .area))
+exact-brackets : (s : Sense) (rs : List Rect) (n w j : ℕ) (b : Spot) → Placed rs n w b → Bracketing s rs n w (exactEnd s j b (extreme s rs n w) .last)
+exact-brackets s rs n w j b p = bracketing s rs n w (exactEnd s j b m .last) (go (better s (m .area) (b .area)) refl) (better-self s (m .area))
   where
     m : Spot
     m = extreme s rs n w
@@ -161,11 +162,6 @@ next-start : (rs : List Rect) (n w j : ℕ) (b : Spot) → 1 ≤ w → j < lastL
 next-start rs n w j b p h a =
     start-stays rs n w (levelStep w (suc j)) b (step-positive w (suc j) p h) (subst (λ (t : ℕ). AtStart rs n w t b) (step-halves w j h) a)
 
--- a level's bracket lies in that of another
-pub record Narrows (s : Sense) (v next : Level) : Type 0 where
-  pub low : lowEnd s v ≤ lowEnd s next
-  pub high : highEnd s next ≤ highEnd s v
-
 narrows : (s : Sense) (v next : Level) → NoBetter s (v .named .area) (next .named .area) → NoBetter s (next .limit) (v .limit) → Narrows s v next
 narrows Greatest v next h k = record { low = ltb-false _ _ h; high = ltb-false _ _ k }
 narrows Least v next h k = record { low = ltb-false _ _ k; high = ltb-false _ _ h }
@@ -174,20 +170,20 @@ named-stays : (s : Sense) (rs : List Rect) (n w j : ℕ) → NoBetter s (levelAt
 unfolding levelAt levelOf
 named-stays s rs n w j = replaced-stays s (levelAt s rs n w j .named) _
 
-same-floor : (s : Sense) (rs : List Rect) (n w i j : ℕ) → i ≡ j → NoBetter s (levelAt s rs n w i .named .area) (levelAt s rs n w j .named .area)
-same-floor s rs n w i j e = rw e (better-self s (levelAt s rs n w j .named .area))
+same-named : (s : Sense) (rs : List Rect) (n w i j : ℕ) → i ≡ j → NoBetter s (levelAt s rs n w i .named .area) (levelAt s rs n w j .named .area)
+same-named s rs n w i j e = rw e (better-self s (levelAt s rs n w j .named .area))
 
--- F is no better in an earlier level
-pub floor-stays : (s : Sense) (rs : List Rect) (n w i j : ℕ) → i ≤ j → NoBetter s (levelAt s rs n w i .named .area) (levelAt s rs n w j .named .area)
-floor-stays s rs n w i zero h = same-floor s rs n w i 0 (omega arith)
-floor-stays s rs n w i (suc j) h = go (le-or-lt (suc j) i) (floor-stays s rs n w i j)
+-- the area named is no better in an earlier level
+pub named-no-worse : (s : Sense) (rs : List Rect) (n w i j : ℕ) → i ≤ j → NoBetter s (levelAt s rs n w i .named .area) (levelAt s rs n w j .named .area)
+named-no-worse s rs n w i zero h = same-named s rs n w i 0 (omega arith)
+named-no-worse s rs n w i (suc j) h = go (le-or-lt (suc j) i) (named-no-worse s rs n w i j)
   where
-    F : ℕ → ℕ
-    F j = levelAt s rs n w j .named .area
+    area : ℕ → ℕ
+    area j = levelAt s rs n w j .named .area
 
-    go : (suc j ≤ i) ⊎ (i < suc j) → (i ≤ j → NoBetter s (F i) (F j)) → NoBetter s (F i) (F (suc j))
-    go (inl k) r = same-floor s rs n w i (suc j) (omega arith)
-    go (inr k) r = no-better-trans s (F i) (F j) (F (suc j)) (r (omega arith)) (named-stays s rs n w j)
+    go : (suc j ≤ i) ⊎ (i < suc j) → (i ≤ j → NoBetter s (area i) (area j)) → NoBetter s (area i) (area (suc j))
+    go (inl k) r = same-named s rs n w i (suc j) (omega arith)
+    go (inr k) r = no-better-trans s (area i) (area j) (area (suc j)) (r (omega arith)) (named-stays s rs n w j)
 
 module _ (s : Sense) (rs : List Rect) (n w : ℕ) (p : 1 ≤ w) where
   pub named-start : (j : ℕ) → j ≤ lastLevel w → AtStart rs n w (levelStep w j) (levelAt s rs n w j .named)
@@ -202,34 +198,39 @@ module _ (s : Sense) (rs : List Rect) (n w : ℕ) (p : 1 ≤ w) where
   each-level P zero h f = f (spotAt (windowArea rs w) 0 0) (step-positive w 0 p h) (first-start rs n w)
   each-level P (suc j) h f = f (levelAt s rs n w j .named) (step-positive w (suc j) p h) (next-start rs n w j _ p h (named-start j (omega arith)))
 
-  -- F, the area of the named window, is the best standard area at level j
-  pub floor-is-best : (j : ℕ) → j ≤ lastLevel w →
+  -- the area of the named window is the best standard area at level j
+  pub named-is-best : (j : ℕ) → j ≤ lastLevel w →
       let t = levelStep w j in
       levelAt s rs n w j .named .area ≡ bestStart s (windowArea rs w) t (startsOn n w t) .area
-  floor-is-best j h =
+  named-is-best j h =
       let t = levelStep w j in
-      each-level (λ (v : Level). v .named .area ≡ bestStart s (windowArea rs w) t (startsOn n w t) .area) j h (λ b q a. floor-of s rs n w t b a)
+      each-level (λ (v : Level). v .named .area ≡ bestStart s (windowArea rs w) t (startsOn n w t) .area) j h (λ b q a. level-best s rs n w t b a)
 
-  -- F ≤ M ≤ C
-  pub level-brackets : (j : ℕ) → j ≤ lastLevel w → w ≤ n → Brackets s rs n w (levelAt s rs n w j)
-  level-brackets j h l = each-level (Brackets s rs n w) j h (λ b q a. brackets-of s rs n w (levelStep w j) b q l a)
+  -- so no start of the level is better
+  pub named-over-starts : (j : ℕ) → j ≤ lastLevel w →
+      let t = levelStep w j in
+      (i k : ℕ) → i < startsOn n w t → k < startsOn n w t → NoBetter s (windowArea rs w (i * t) (k * t)) (levelAt s rs n w j .named .area)
+  named-over-starts j h i k hi hk =
+      let t = levelStep w j in
+      rw (named-is-best j h) (rows-see s (windowArea rs w) t (startsOn n w t) (startsOn n w t) (spotAt (windowArea rs w) 0 0) i k hi hk)
 
-  -- in the exact level that follows it, F = M
-  pub exact-floor : (j : ℕ) → j ≤ lastLevel w → w ≤ n →
+  -- F ≤ M ≤ C, or low ≤ minimum ≤ high
+  pub level-brackets : (j : ℕ) → j ≤ lastLevel w → w ≤ n → Bracketing s rs n w (levelAt s rs n w j)
+  level-brackets j h l = each-level (Bracketing s rs n w) j h (λ b q a. bracketing-of s rs n w (levelStep w j) b q l a)
+
+  -- in the exact level that follows it, the area named is the extreme
+  pub exact-named : (j : ℕ) → j ≤ lastLevel w → w ≤ n →
       exactEnd s j (levelAt s rs n w j .named) (extreme s rs n w) .last .named .area ≡ extreme s rs n w .area
-  exact-floor j h l =
+  exact-named j h l =
       replaced-area s (levelAt s rs n w j .named) (extreme s rs n w)
       (placed-no-better s rs n w (levelAt s rs n w j .named) (level-brackets j h l .named))
 
-  -- from level j to the next F never falls and C never rises
+  -- from level j to the next the lower end never falls and the upper one never rises
   pub level-narrows : (j : ℕ) → j < lastLevel w → Narrows s (levelAt s rs n w j) (levelAt s rs n w (suc j))
-  level-narrows j h = narrows s (levelAt s rs n w j) (levelAt s rs n w (suc j)) keeps lowers
+  level-narrows j h = narrows s (levelAt s rs n w j) (levelAt s rs n w (suc j)) (named-stays s rs n w j) limit-no-better
     where
-      keeps : NoBetter s (levelAt s rs n w j .named .area) (levelAt s rs n w (suc j) .named .area)
-      keeps = named-stays s rs n w j
-
-      lowers : NoBetter s (levelAt s rs n w (suc j) .limit) (levelAt s rs n w j .limit)
-      lowers =
+      limit-no-better : NoBetter s (levelAt s rs n w (suc j) .limit) (levelAt s rs n w j .limit)
+      limit-no-better =
           each-level (λ (v : Level). NoBetter s (v .limit) (levelAt s rs n w j .limit)) (suc j) h
           (λ b q _. each-level (λ (v : Level). NoBetter s (levelOf s rs n w (levelStep w (suc j)) b .limit) (v .limit)) j (omega arith)
           (λ c _ _. subst (λ (t : ℕ). NoBetter s (levelOf s rs n w (levelStep w (suc j)) b .limit) (levelOf s rs n w t c .limit)) (sym (step-halves w j h))
@@ -266,17 +267,17 @@ module _ (P : Level → Type 0) (s : Sense) (rs : List Rect) (n w e v : ℕ) (ea
 
 -- what the quick run promises
 pub record Promised (s : Sense) (rs : List Rect) (n w e : ℕ) (q : Quick) : Type 0 where
-  pub brackets : Brackets s rs n w (q .last)
+  pub ends : Bracketing s rs n w (q .last)
   pub accurate : q .end ≡ Met → Accurate e (extreme s rs n w .area) (lowEnd s (q .last)) (highEnd s (q .last))
 
 pub quick-run-promises : (s : Sense) (rs : List Rect) (n w e v : ℕ) → 1 ≤ w → w ≤ n → Promised s rs n w e (quickRun s rs n w e v)
 quick-run-promises s rs n w e v p q =
     let ended =
-    quick-run-ends (Brackets s rs n w) s rs n w e v (λ j h. level-brackets s rs n w p j h q)
+    quick-run-ends (Bracketing s rs n w) s rs n w e v (λ j h. level-brackets s rs n w p j h q)
     (λ j h. exact-brackets s rs n w j (levelAt s rs n w j .named) (level-brackets s rs n w p j h q .named)) in
     record {
-      brackets = ended .holds;
-      accurate = λ m. accurate e _ _ _ (ended .holds .low) (ended .holds .high) (leb-true _ _ (ended .met m));
+      ends = ended .holds;
+      accurate = λ m. accurate e _ _ _ (ended .holds .bracket .low) (ended .holds .bracket .high) (leb-true _ _ (ended .met m));
     }
 
 -- a run does at most v levels, the exact search counted as one
@@ -307,13 +308,12 @@ nothing-covered b = box-const b 0 ∙ flat
     flat = omega arith
 
 far-nothing : (s : Sense) (n w t x y : ℕ) → farArea s [] n w t x y ≡ 0
-far-nothing Greatest n w t x y = nothing-covered (bloated n w t x y)
-far-nothing Least n w t x y = nothing-covered (shrunk w t x y)
+far-nothing s n w t x y = nothing-covered (farWindow s n w t x y)
 
 best-nothing : (s : Sense) (f : ℕ → ℕ → ℕ) (t k : ℕ) → ((x y : ℕ) → f x y ≡ 0) → bestStart s f t k .area ≡ 0
 best-nothing s f t k z = rows-are s f t k k (spotAt f 0 0) (λ (a : Spot). a .area ≡ 0) (z 0 0) (λ i j h l. z (i * t) (j * t))
 
--- F = C = 0 at (0, 0), and no start is kept
+-- 0 at (0, 0) is named, the limit is 0 and no start is kept
 abbrev pub emptyLevel : Level
 emptyLevel = record { named = record { area = 0; x = 0; y = 0 }; limit = 0; kept = 0 }
 

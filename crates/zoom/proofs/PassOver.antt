@@ -1,33 +1,29 @@
--- Passing over is harmless: a start whose far window lies in a far window of the level before that was no better than the best window then
--- adds nothing to F, to kept or to C; and the flags of a level say this for the next.
+-- Passing over is harmless: a start whose far window tells no more than one of the level before that was no better than the best window then
+-- adds nothing to either end or to kept; and the flags of a level say this for the next.
 use Prim.Native.Nat.{ℕ, zero, suc, _+_, _*_, _/_, _≤_, _<_}
 use mathlib.Core.Path.{_≡_, refl, sym, ap, _∙_, subst}
 use mathlib.Core.Bool.{Bool, true, false}
 use mathlib.Core.Logic.{_⊎_, inl, inr}
 use mathlib.Core.List.{List}
-use native.Mathlib.Nat.{mul-le-mul-right, zero-mul, le-trans}
+use native.Mathlib.Nat.{mul-le-mul-right, zero-mul}
 use native.Mathlib.Decide.{ℕ-discrete}
 use native.Mathlib.Omega.{arith}
-use borrow.Author.Tests.{ltb-false, le-ltb}
 use lib.ListN.{length, getD, set, replicate, length-set, length-replicate, getD-replicate, List·getD-eq-default}
 use lib.Seq.{getD-set-same, getD-set-other}
 use Rattle.laws.proofs.Tests.{le-or-lt}
 use Rattle.geometry.specs.declared.Rect.{Rect}
 use Rattle.geometry.specs.declared.Spot.{Spot}
 use Rattle.geometry.specs.declared.Sense.{Sense}
-use Rattle.geometry.specs.declared.Sense.the-variants.{Greatest}
 use Rattle.geometry.specs.Count.{one-if}
-use Rattle.geometry.specs.Layout.{covered, coveredArea, windowBox}
-use Rattle.geometry.specs.Extreme.{better, spotAt, replaced, bestInRows, NoBetter}
-use Rattle.geometry.proofs.Counting.{box-within}
-use Rattle.geometry.proofs.Extremes.{step-skip}
+use Rattle.geometry.specs.Extreme.{better, spotAt, replaced, bestInRows, NoBetter, Bounded}
+use Rattle.geometry.proofs.Extremes.{step-skip, bounded}
 use Rattle.extremes.specs.Exact.{windowArea}
-use Rattle.zoom.specs.Run.{levelStep, startsOn, bloated, farArea, levelOf, levelAt}
+use Rattle.zoom.specs.Run.{levelStep, startsOn, farWindow, farArea, levelOf, levelAt}
 use Rattle.zoom.specs.Passing.{flagOf, flagsInRow, flagsInRows, Harmless}
 use Rattle.zoom.proofs.Folds.{no-better-trans, rows-see, rows-forget}
 use Rattle.zoom.specs.Grid.{AtStart}
-use Rattle.zoom.proofs.Starts.{start-fits, half-start, window-within, far-halves}
-use Rattle.zoom.proofs.Bracket.{level-at-start, floor-stays}
+use Rattle.zoom.proofs.Starts.{Nested, nested-no-better, start-fits, half-start, window-within, far-halves}
+use Rattle.zoom.proofs.Bracket.{level-at-start, named-no-worse}
 
 -- ---- what the flags of a level say
 
@@ -100,7 +96,7 @@ harmless-next s rs n w t best l p j k i h e =
     (rows-flag s best (farArea s rs n w (2 * t)) (2 * t) (startsOn n w (2 * t)) (startsOn n w (2 * t)) l (i / 2) (j / 2)
     (half-start n w t i p h) (half-start n w t j p k) e)
 
--- the standard window of a start lies in its far one
+-- the standard window of a start has no better an area than its far one
 pub standard-no-better : (s : Sense) (rs : List Rect) (n w t i j best : ℕ) → 1 ≤ t → w ≤ n → i < startsOn n w t → j < startsOn n w t →
     NoBetter s (farArea s rs n w t (i * t) (j * t)) best → NoBetter s (windowArea rs w (i * t) (j * t)) best
 standard-no-better s rs n w t i j best p q h k b =
@@ -109,52 +105,42 @@ standard-no-better s rs n w t i j best p q h k b =
     (omega arith) (omega arith) (omega arith) (omega arith))
     b
 
--- ---- the law of passing over, in boxes
+-- ---- the law of passing over
 
--- b lies inside c
-pub record LiesIn (b c : Rect) : Type 0 where
-  pub left : c .x1 ≤ b .x1
-  pub low : c .y1 ≤ b .y1
-  pub right : b .x2 ≤ c .x2
-  pub high : b .y2 ≤ c .y2
+-- a start whose far area is no better than f, where the window named has area f: it would change neither that window nor the limit, which is
+-- no worse than f, and is not kept
+pub record AddsNothing (s : Sense) (rs : List Rect) (n w t x y f : ℕ) : Type 0 where
+  pub no-better : NoBetter s (farArea s rs n w t x y) f
+  pub named : (b : Spot) → NoBetter s f (b .area) → replaced s b (spotAt (windowArea rs w) x y) ≡ b
+  pub limit : (b : Spot) → NoBetter s f (b .area) → replaced s b (spotAt (farArea s rs n w t) x y) ≡ b
+  pub kept : one-if (better s (farArea s rs n w t x y) f) ≡ 0
 
--- a window whose bloated area is at most F: it would change neither F nor C, which is no less than F, and is not kept
-pub record AddsNothing (rs : List Rect) (n w t x y f : ℕ) : Type 0 where
-  pub small : coveredArea rs (bloated n w t x y) ≤ f
-  pub floor : (b : Spot) → f ≤ b .area → replaced Greatest b (spotAt (windowArea rs w) x y) ≡ b
-  pub ceiling : (b : Spot) → f ≤ b .area → replaced Greatest b (spotAt (farArea Greatest rs n w t) x y) ≡ b
-  pub kept : one-if (better Greatest (coveredArea rs (bloated n w t x y)) f) ≡ 0
-
--- a start (x, y) of level j may be passed over if its bloated window lies inside one of an earlier level i of area at most the F of that level
-pub passed-over : (rs : List Rect) (n w i j x y x′ y′ : ℕ) → i ≤ j → x + w ≤ n → y + w ≤ n →
-    LiesIn (bloated n w (levelStep w j) x y) (bloated n w (levelStep w i) x′ y′) →
-    coveredArea rs (bloated n w (levelStep w i) x′ y′) ≤ levelAt Greatest rs n w i .named .area →
-    AddsNothing rs n w (levelStep w j) x y (levelAt Greatest rs n w j .named .area)
-passed-over rs n w i j x y x′ y′ h ex ey l s =
+-- a start (x, y) of level j may be passed over: for the greatest if its bloated window lies inside one of an earlier level i of area at most the
+-- F of that level, for the least if its shrunk window holds one of an earlier level of area at least the high end of that level
+pub passed-over : (s : Sense) (rs : List Rect) (n w i j x y x′ y′ : ℕ) → i ≤ j → x + w ≤ n → y + w ≤ n →
+    Nested s (farWindow s n w (levelStep w j) x y) (farWindow s n w (levelStep w i) x′ y′) →
+    Bounded s (farArea s rs n w (levelStep w i) x′ y′) (levelAt s rs n w i .named .area) →
+    AddsNothing s rs n w (levelStep w j) x y (levelAt s rs n w j .named .area)
+passed-over s rs n w i j x y x′ y′ h ex ey l k =
     record {
-      small = small;
-      floor = λ b k. step-skip Greatest b (spotAt (windowArea rs w) x y) (le-ltb (b .area) (windowArea rs w x y) (omega (arith, small, standard, k)));
-      ceiling = λ b k. step-skip Greatest b (spotAt (farArea Greatest rs n w t) x y) (le-ltb (b .area) (coveredArea rs (bloated n w t x y)) (omega (arith, small, k)));
-      kept = ap one-if (le-ltb (levelAt Greatest rs n w j .named .area) (coveredArea rs (bloated n w t x y)) small);
+      no-better = far;
+      named = λ b p. step-skip s b (spotAt (windowArea rs w) x y) (no-better-trans s _ _ _ standard (no-better-trans s _ _ _ far p));
+      limit = λ b p. step-skip s b (spotAt (farArea s rs n w t) x y) (no-better-trans s _ _ _ far p);
+      kept = ap one-if far;
     }
   where
     t : ℕ
     t = levelStep w j
 
-    area : ℕ → ℕ → ℕ
-    area x y = one-if (covered rs x y)
+    far : NoBetter s (farArea s rs n w t x y) (levelAt s rs n w j .named .area)
+    far =
+        no-better-trans s _ _ _ (nested-no-better s rs (farWindow s n w t x y) (farWindow s n w (levelStep w i) x′ y′) l)
+        (no-better-trans s _ _ _ (bounded s _ _ k) (named-no-worse s rs n w i j h))
 
-    grows : levelAt Greatest rs n w i .named .area ≤ levelAt Greatest rs n w j .named .area
-    grows = ltb-false _ _ (floor-stays Greatest rs n w i j h)
+    standard : NoBetter s (windowArea rs w x y) (farArea s rs n w t x y)
+    standard = window-within s rs n w t x y x y ex ey (omega arith) (omega arith) (omega arith) (omega arith)
 
-    small : coveredArea rs (bloated n w t x y) ≤ levelAt Greatest rs n w j .named .area
-    small =
-        le-trans (box-within (bloated n w t x y) (bloated n w (levelStep w i) x′ y′) area (l .left) (l .low) (l .right) (l .high)) (le-trans s grows)
-
-    standard : windowArea rs w x y ≤ coveredArea rs (bloated n w t x y)
-    standard = box-within (windowBox w x y) (bloated n w t x y) area (omega arith) (omega arith) (omega arith) (omega arith)
-
--- C may be sought from F on: the best window lies in the far window of its own start
+-- the limit may be sought from the area named on: the best window is no better than the far window of its own start
 pub far-from-best : (s : Sense) (rs : List Rect) (n w t : ℕ) (b : Spot) → 1 ≤ t → w ≤ n → AtStart rs n w t b →
     bestInRows s (farArea s rs n w t) t (startsOn n w t) (startsOn n w t) (levelOf s rs n w t b .named) .area ≡ levelOf s rs n w t b .limit
 unfolding levelOf

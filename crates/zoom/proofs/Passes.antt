@@ -195,7 +195,7 @@ far-rows-stay s f t k zero v h = h
 far-rows-stay s f t k (suc m) v h =
     rw (far-rows-named s f t k m v) at (far-row-stays s (λ x. f x (m * t)) t k (farInRows s f t k m v) (rw (far-rows-named s f t k m v) (far-rows-stay s f t k m v h)))
 
--- the limit is the fold for C
+-- the limit is the best far area
 far-row-limit : (s : Sense) (f : ℕ → ℕ → ℕ) (t y k : ℕ) (v : Level) (b : Spot) → v .limit ≡ b .area →
     farInRow s (λ x. f x y) t k v .limit ≡ bestInRow s f t y k b .area
 unfolding farInRow bestInRow

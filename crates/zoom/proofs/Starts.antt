@@ -14,7 +14,7 @@ use Rattle.geometry.specs.Layout.{covered, coveredArea}
 use Rattle.geometry.specs.Extreme.{spotAt, NoBetter}
 use Rattle.geometry.proofs.Counting.{box-within}
 use Rattle.extremes.specs.Exact.{windowArea}
-use Rattle.zoom.specs.Run.{startsOn, bloated, shrunk, farArea}
+use Rattle.zoom.specs.Run.{startsOn, farWindow, farArea}
 use Rattle.zoom.specs.Grid.{AtStart}
 
 -- ---- which starts there are
@@ -61,15 +61,32 @@ standard-is-far Greatest rs n w x y h k = ap₂ (λ (a b : ℕ). coveredArea rs 
     end x h = omega arith
 standard-is-far Least rs n w x y h k = ap₂ (λ (a b : ℕ). coveredArea rs (record { x1 = a; y1 = b; x2 = x + w; y2 = y + w })) (sym (add-zero x)) (sym (add-zero y))
 
+-- b lies inside c
+pub record LiesIn (b c : Rect) : Type 0 where
+  pub left : c .x1 ≤ b .x1
+  pub low : c .y1 ≤ b .y1
+  pub right : b .x2 ≤ c .x2
+  pub high : b .y2 ≤ c .y2
+
+-- of two far windows, the one tells no more than the other: for the greatest it lies inside the other, for the least it holds the other
+abbrev pub Nested : Sense → Rect → Rect → Type 0
+Nested Greatest b c = LiesIn b c
+Nested Least b c = LiesIn c b
+
+pub nested-no-better : (s : Sense) (rs : List Rect) (b c : Rect) → Nested s b c → NoBetter s (coveredArea rs b) (coveredArea rs c)
+nested-no-better Greatest rs b c l = le-ltb _ _ (box-within b c (λ x y. one-if (covered rs x y)) (l .left) (l .low) (l .right) (l .high))
+nested-no-better Least rs b c l = le-ltb _ _ (box-within c b (λ x y. one-if (covered rs x y)) (l .left) (l .low) (l .right) (l .high))
+
 -- a far window whose square of a step lies in another's has no better an area
+far-nested : (s : Sense) (n w t x y t′ x′ y′ : ℕ) → x′ ≤ x → x + t ≤ x′ + t′ → y′ ≤ y → y + t ≤ y′ + t′ →
+    Nested s (farWindow s n w t x y) (farWindow s n w t′ x′ y′)
+far-nested Greatest n w t x y t′ x′ y′ hx kx hy ky = record { left = hx; low = hy; right = omega arith; high = omega arith }
+far-nested Least n w t x y t′ x′ y′ hx kx hy ky = record { left = kx; low = ky; right = omega arith; high = omega arith }
+
 pub far-within : (s : Sense) (rs : List Rect) (n w t x y t′ x′ y′ : ℕ) → x′ ≤ x → x + t ≤ x′ + t′ → y′ ≤ y → y + t ≤ y′ + t′ →
     NoBetter s (farArea s rs n w t x y) (farArea s rs n w t′ x′ y′)
-far-within Greatest rs n w t x y t′ x′ y′ hx kx hy ky =
-    le-ltb (farArea Greatest rs n w t′ x′ y′) (farArea Greatest rs n w t x y)
-    (box-within (bloated n w t x y) (bloated n w t′ x′ y′) (λ x y. one-if (covered rs x y)) hx hy (omega arith) (omega arith))
-far-within Least rs n w t x y t′ x′ y′ hx kx hy ky =
-    le-ltb (farArea Least rs n w t x y) (farArea Least rs n w t′ x′ y′)
-    (box-within (shrunk w t′ x′ y′) (shrunk w t x y) (λ x y. one-if (covered rs x y)) kx ky (omega arith) (omega arith))
+far-within s rs n w t x y t′ x′ y′ hx kx hy ky =
+    nested-no-better s rs (farWindow s n w t x y) (farWindow s n w t′ x′ y′) (far-nested s n w t x y t′ x′ y′ hx kx hy ky)
 
 -- each position has no better an area than the far window of the start below it
 pub window-within : (s : Sense) (rs : List Rect) (n w t x y x′ y′ : ℕ) → x + w ≤ n → y + w ≤ n → x′ ≤ x → x ≤ x′ + t → y′ ≤ y → y ≤ y′ + t →
@@ -77,7 +94,7 @@ pub window-within : (s : Sense) (rs : List Rect) (n w t x y x′ y′ : ℕ) →
 window-within s rs n w t x y x′ y′ ex ey hx kx hy ky =
     rw (standard-is-far s rs n w x y ex ey) (far-within s rs n w 0 x y t x′ y′ hx (omega arith) hy (omega arith))
 
--- the far window of start (i, j) lies in that of start (i / 2, j / 2) of the level before
+-- the far window of start (i, j) has no better an area than that of start (i / 2, j / 2) of the level before
 pub far-halves : (s : Sense) (rs : List Rect) (n w t i j : ℕ) →
     NoBetter s (farArea s rs n w t (i * t) (j * t)) (farArea s rs n w (2 * t) (i / 2 * (2 * t)) (j / 2 * (2 * t)))
 far-halves s rs n w t i j =

@@ -32,7 +32,7 @@ use Rattle.zoom.specs.Next.{nextAfter}
 use Rattle.zoom.proofs.Folds.{no-better-trans, rows-stay}
 use Rattle.zoom.proofs.Steps.{step-next, step-halves, step-positive}
 use Rattle.zoom.proofs.Starts.{start-stays}
-use Rattle.zoom.proofs.Bracket.{first-start, level-searches, level-at-start, floor-of, level-small}
+use Rattle.zoom.proofs.Bracket.{first-start, level-searches, level-at-start, level-best, level-small}
 use Rattle.zoom.proofs.PassOver.{far-from-best, harmless-first, harmless-next}
 use Rattle.zoom.proofs.Passes.{RowsSoFar, rows-named, far-rows-limit, far-rows-kept}
 
@@ -94,7 +94,7 @@ level-done s rs g before best this new new′ z a e r =
     kept-is : this .kept ≡ level .kept
     kept-is =
         ap (λ (v : Level). v .kept) counted ∙ far-rows-kept s far (g .t) _ _ (first (level .named)) ∙ zero-add _
-        ∙ ap kept-against (floor-of s rs (g .n) (g .w) (g .t) before a)
+        ∙ ap kept-against (level-best s rs (g .n) (g .w) (g .t) before a)
 
 -- ---- the run, level by level
 

@@ -4,10 +4,11 @@ use mathlib.Core.Path.{_≡_}
 use mathlib.Core.List.{List}
 use Rattle.geometry.specs.declared.Rect.{Rect}
 use Rattle.geometry.specs.declared.Spot.{Spot}
+use Rattle.geometry.specs.Layout.{rectsOf}
 use Rattle.geometry.specs.Extreme.{spotAt}
 use Rattle.extremes.specs.Exact.{windowArea}
 use Rattle.zoom.specs.declared.Grid.{Grid}
-use Rattle.zoom.specs.Run.{startsOn}
+use Rattle.zoom.specs.Run.{startsOn, farArea}
 use Rattle.geometry.specs.Sizes.{widest}
 use Rattle.zoom.specs.Sizes.{startsRoom}
 
@@ -25,6 +26,10 @@ pub record Sized (g : Grid) : Type 0 where
   pub step-fits : g .t ≤ g .w
   pub count : g .starts ≡ startsOn (g .n) (g .w) (g .t)
   pub few-above : g .stride ≤ startsRoom
+
+-- the far area of the window at a position of the level
+abbrev pub farOn : Grid → (rects : List ℕ) → (x y : ℕ) → ℕ
+farOn g rects = farArea (g .sense) (rectsOf rects) (g .n) (g .w) (g .t)
 
 -- a window at a start, with its area
 pub record AtStart (rs : List Rect) (n w t : ℕ) (b : Spot) : Type 0 where

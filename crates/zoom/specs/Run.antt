@@ -1,7 +1,8 @@
--- Document 01, "The quick run". Floor F, ceiling C, kept, level and end are its terms. Nothing is passed over here.
--- A level is stated over the sense of the extreme. Of the greatest window the answer's line prints `named`, area and place, after floor (F),
--- `limit` after ceiling (C), `kept` after kept, and `done` of the run after levels. The least sense serves request 1 of document 02.
-use Prim.Native.Nat.{ℕ, zero, suc, _+_, _-_, _*_, _/_, _^_, min}
+-- Document 01, "The quick run", and document 02, request 1, which asks the same of the least window. Floor F, ceiling C, low, high, kept, level
+-- and end are their terms. Nothing is passed over here.
+-- A run is stated over the sense of the extreme. Of its last level the answer prints `named`, area and place, after floor (F) for the greatest
+-- and after high for the least, `limit` after ceiling (C) and after low, `kept` after kept, and `done` of the run after levels.
+use Prim.Native.Nat.{ℕ, zero, suc, _+_, _-_, _*_, _/_, _^_, _≤_, min}
 use mathlib.Core.Bool.{Bool, true, false}
 use mathlib.Core.List.{List}
 use lib.Dec.{leb}
@@ -41,17 +42,21 @@ abbrev pub shrunk : (w t x y : ℕ) → Rect
 shrunk w t x y = record { x1 = x + t; y1 = y + t; x2 = x + w; y2 = y + w }
 
 -- what brackets the standard window on the far side: the bloated window for the greatest, the shrunk one for the least
+abbrev pub farWindow : Sense → (n w t x y : ℕ) → Rect
+farWindow Greatest n w t x y = bloated n w t x y
+farWindow Least n w t x y = shrunk w t x y
+
 abbrev pub farArea : Sense → List Rect → (n w t x y : ℕ) → ℕ
-farArea Greatest rs n w t x y = coveredArea rs (bloated n w t x y)
-farArea Least rs n w t x y = coveredArea rs (shrunk w t x y)
+farArea s rs n w t x y = coveredArea rs (farWindow s n w t x y)
 
 -- the best of a level's starts, k on each axis and t apart: the least y, then the least x
 abbrev pub bestStart : Sense → (ℕ → ℕ → ℕ) → (t k : ℕ) → Spot
 bestStart s f t k = bestInRows s f t k k (spotAt f 0 0)
 
 -- the level of step t, where `before` is the window named by the levels before it. `best` is the level's own best window: its area is F,
--- the largest standard area. The named window gives way to it only if it is strictly larger, not on a tie. C is the largest bloated area, and
--- kept counts the starts whose bloated area exceeds F. In a run F is the area of the named window too: `floor-is-best` in proofs/Bracket.antt.
+-- the largest standard area, or high, the least one. The named window gives way to it only if it is strictly better, not on a tie. The limit
+-- is C, the largest bloated area, or low, the least shrunk one; kept counts the starts whose bloated area exceeds F, or whose shrunk area is
+-- below high. In a run F, or high, is the area of the named window too: `named-is-best` in proofs/Bracket.antt.
 unfoldable pub levelOf : Sense → List Rect → (n w t : ℕ) → Spot → Level
 levelOf s rs n w t before =
     let k = startsOn n w t in
@@ -67,7 +72,7 @@ unfoldable pub levelAt : Sense → List Rect → (n w j : ℕ) → Level
 levelAt s rs n w zero = levelOf s rs n w (levelStep w 0) (spotAt (windowArea rs w) 0 0)
 levelAt s rs n w (suc j) = levelOf s rs n w (levelStep w (suc j)) (levelAt s rs n w j .named)
 
--- the lower and the upper end of a level's bracket
+-- the lower and the upper end of a level's bracket: F and C, or low and high
 abbrev pub lowEnd : Sense → Level → ℕ
 lowEnd Greatest v = v .named .area
 lowEnd Least v = v .limit
@@ -76,7 +81,17 @@ abbrev pub highEnd : Sense → Level → ℕ
 highEnd Greatest v = v .limit
 highEnd Least v = v .named .area
 
--- a level is met for accuracy e, in thousandths: 1000 × C ≤ (1000 + 2e) × F
+-- m lies in a level's bracket
+pub record Brackets (s : Sense) (v : Level) (m : ℕ) : Type 0 where
+  pub low : lowEnd s v ≤ m
+  pub high : m ≤ highEnd s v
+
+-- the bracket of the next level lies in that of v: the lower end does not fall, the upper one does not rise
+pub record Narrows (s : Sense) (v next : Level) : Type 0 where
+  pub low : lowEnd s v ≤ lowEnd s next
+  pub high : highEnd s next ≤ highEnd s v
+
+-- a level is met for accuracy e, in thousandths: 1000 × C ≤ (1000 + 2e) × F, or 1000 × high ≤ (1000 + 2e) × low
 abbrev pub isMet : Sense → ℕ → Level → Bool
 isMet s e v = leb (1000 * highEnd s v) ((1000 + 2 * e) * lowEnd s v)
 
@@ -94,8 +109,8 @@ afterLevel s e v j this next =
       | false ↦ elim (leb v (suc j)) [ true ↦ record { end = Stopped; done = suc j; last = this } | false ↦ next ]
     ]
 
--- the exact search counts as one more level after level j: C is M, no start is kept, and its window m is named only where strictly better.
--- F is M too: `exact-floor` in proofs/Bracket.antt
+-- the exact search counts as one more level after level j: C is M, or low the minimum, no start is kept, and its window m is named only where
+-- strictly better. F is M too, or high the minimum: `exact-named` in proofs/Bracket.antt
 abbrev pub exactEnd : Sense → (j : ℕ) → (before m : Spot) → Quick
 exactEnd s j before m = record { end = Exact; done = suc (suc j); last = record { named = replaced s before m; limit = m .area; kept = 0 } }
 

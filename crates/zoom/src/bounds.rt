@@ -1,12 +1,11 @@
-// The second pass of a level: C, the starts kept and the flags for the next
+// The second pass of a level: limit, starts kept and the flags for the next
 // level, over the starts that are not passed over. Its window is known by then,
 // so the level itself is carried through the search.
 ghost use Prim.Native.Nat.{_*_};
 ghost use mathlib.Core.Path.{_≡_};
 ghost use lib.ListN.{set};
-ghost use Rattle.geometry.specs.Layout.{rectsOf};
-ghost use Rattle.zoom.specs.Run.{farArea};
 ghost use Rattle.zoom.specs.Sizes.{levelRoom, keptRoom};
+ghost use Rattle.zoom.specs.Grid.{farOn};
 ghost use Rattle.zoom.specs.Strips.{alongStrip};
 ghost use Rattle.zoom.specs.Passing.{flagOf, flagsInRow, flagsInRows, Passable, RowPassable, StripPassable};
 ghost use Rattle.zoom.specs.Weighing.{betterArea, weighed, farInRow, farInRows, Weighable};
@@ -32,7 +31,7 @@ fn better_area(sense: Sense, old: u64, new: u64) -> u64
 }
 
 // One start, whose far area is known, and its flag. One that is no better than
-// the level's window cannot raise the limit that stands.
+// the level's window cannot better the limit that stands.
 fn weigh(sense: Sense, far: u64, new: &mut [u8], at: u64, before: Level) -> Level
     requires { ⌜ Weighable sense keptRoom before ⌝ }
     ensures { λ r. ⌜ r ≡ weighed sense before far ⌝ }
@@ -84,8 +83,8 @@ fn row(strip: &[u64], flags: &[u8], new: &mut [u8], g: Grid, j: u64, before: Lev
 fn row_at(rects: &[u64], flags: &[u8], new: &mut [u8], g: Grid, j: u64, before: Level) -> Level
     requires { ⌜ RowPassable (now rects) (now flags) g j (before .named .area) ⌝ }
     requires { ⌜ Weighable (g .sense) levelRoom before ⌝ }
-    ensures { λ r. ⌜ r ≡ farInRow (g .sense) (λ x. farArea (g .sense) (rectsOf (now (rects .entry))) (g .n) (g .w) (g .t) x (j * g .t)) (g .t) (g .starts) before ⌝ }
-    ensures { λ r. ⌜ now (new .exit) ≡ flagsInRow (g .sense) (before .named .area) (λ x. farArea (g .sense) (rectsOf (now (rects .entry))) (g .n) (g .w) (g .t) x (j * g .t)) (g .t) (j * g .starts) (g .starts) (now (new .entry)) ⌝ }
+    ensures { λ r. ⌜ r ≡ farInRow (g .sense) (λ x. farOn g (now (rects .entry)) x (j * g .t)) (g .t) (g .starts) before ⌝ }
+    ensures { λ r. ⌜ now (new .exit) ≡ flagsInRow (g .sense) (before .named .area) (λ x. farOn g (now (rects .entry)) x (j * g .t)) (g .t) (j * g .starts) (g .starts) (now (new .entry)) ⌝ }
 {
     let mut strip = [0u64; RECTS_ROOM];
     let len = strip_at(rects, g, g.t, j * g.t, &mut strip);
@@ -95,8 +94,8 @@ fn row_at(rects: &[u64], flags: &[u8], new: &mut [u8], g: Grid, j: u64, before: 
 // All rows, from the level's window on: the limit is no worse than its area.
 pub(crate) fn rows(rects: &[u64], flags: &[u8], new: &mut [u8], g: Grid, best: Spot) -> Level
     requires { ⌜ Passable (now rects) (now flags) g (best .area) ⌝ }
-    ensures { λ r. ⌜ r ≡ farInRows (g .sense) (farArea (g .sense) (rectsOf (now (rects .entry))) (g .n) (g .w) (g .t)) (g .t) (g .starts) (g .starts) (record { named = best; limit = best .area; kept = 0 }) ⌝ }
-    ensures { λ r. ⌜ now (new .exit) ≡ flagsInRows (g .sense) (best .area) (farArea (g .sense) (rectsOf (now (rects .entry))) (g .n) (g .w) (g .t)) (g .t) (g .starts) (g .starts) (now (new .entry)) ⌝ }
+    ensures { λ r. ⌜ r ≡ farInRows (g .sense) (farOn g (now (rects .entry))) (g .t) (g .starts) (g .starts) (record { named = best; limit = best .area; kept = 0 }) ⌝ }
+    ensures { λ r. ⌜ now (new .exit) ≡ flagsInRows (g .sense) (best .area) (farOn g (now (rects .entry))) (g .t) (g .starts) (g .starts) (now (new .entry)) ⌝ }
 {
     let mut so_far = Level {
         named: best,

@@ -7,12 +7,20 @@ mod spans;
 mod standard;
 
 ghost use mathlib.Core.Path.{_≡_};
-ghost use Rattle.geometry.specs.declared.Sense.the-variants.{Greatest};
 ghost use Rattle.geometry.specs.Layout.{rectsOf};
 ghost use Rattle.zoom.specs.Run.{quickRun, density};
 ghost use Rattle.zoom.specs.Sizes.{Runnable, Measurable};
 use geometry::Sense;
 use geometry::Spot;
+use levels::last_level;
+use levels::level;
+use levels::next_after;
+use levels::starts_on;
+
+// The flags of a level, one to a start, fit up to 512 starts on an axis. The
+// largest legal job has 505 at level 3, the last whose flags are read; where
+// there are more, those without a flag are not passed over.
+const MOST_FLAGS: usize = 512 * 512;
 
 // What is asked of a quick run: the layout's side N, the window's side W, the
 // accuracy E and the levels allowed, V.
@@ -33,8 +41,8 @@ pub enum End {
 // A level: the window named; the limit, that is the far end of the bracket,
 // which no window passes: the best area of a bloated window for the greatest,
 // of a shrunk one for the least; and the number of starts whose far area is
-// better than the best standard one. For the greatest the area named is printed
-// as the floor and the limit as the ceiling.
+// better than the best standard one. The area named and the limit are printed
+// as floor and ceiling for the greatest, as high and low for the least.
 pub struct Level {
     pub named: Spot,
     pub limit: u64,
@@ -75,13 +83,43 @@ enum Next {
     Deeper,
 }
 
-// The quick run for the greatest window. The exact run's window comes in, so
-// that the exact level does not search again.
-pub fn quick_run(rects: &[u64], asked: Asked, m: Spot) -> Quick
-    requires { ⌜ Runnable Greatest (now rects) asked m ⌝ }
-    ensures { λ r. ⌜ r ≡ quickRun Greatest (rectsOf (now (rects .entry))) (asked .size) (asked .window) (asked .accuracy) (asked .levels) ⌝ }
+// The quick run for an extreme. The exact run's window m comes in, so that the
+// exact level does not search again. `old` has the flags of the level before,
+// none at first, and `new` gets those of this one.
+pub fn quick_run(sense: Sense, rects: &[u64], asked: Asked, m: Spot) -> Quick
+    requires { ⌜ Runnable sense (now rects) asked m ⌝ }
+    ensures { λ r. ⌜ r ≡ quickRun sense (rectsOf (now (rects .entry))) (asked .size) (asked .window) (asked .accuracy) (asked .levels) ⌝ }
 {
-    levels::run(Sense::Greatest, rects, asked, m)
+    let n = asked.size;
+    let w = asked.window;
+    let z = last_level(w);
+    let mut old = [0u8; MOST_FLAGS];
+    let mut new = [0u8; MOST_FLAGS];
+    let mut before = extremes::first_window(rects, w);
+    let mut stride: u64 = 0;
+    let mut t = w;
+    let mut j: u64 = 0;
+    loop {
+        let starts = starts_on(n, w, t);
+        let g = Grid {
+            sense,
+            n,
+            w,
+            t,
+            starts,
+            stride,
+        };
+        let this = level(rects, &old, &mut new, g, before);
+        let next = next_after(sense, asked, z, j, this, m);
+        if let Next::Ended(answer) = next {
+            return answer;
+        }
+        bytes::copy(&new, &mut old);
+        before = this.named;
+        stride = starts;
+        t = t / 2;
+        j += 1;
+    }
 }
 
 // The density of a bracket, in ten-thousandths.

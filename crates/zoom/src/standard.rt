@@ -1,4 +1,4 @@
-// The first pass of a level: F and its window, over the starts that are not
+// The first pass of a level: the window named, over the starts that are not
 // passed over.
 ghost use Prim.Native.Nat.{_+_, _*_, _≤_};
 ghost use mathlib.Core.Path.{_≡_};

@@ -21,6 +21,7 @@ pub fn large_jobs() -> Vec<LargeJob> {
         named("different sides", different_sides()),
         named("most starts", most_starts()),
         named("soon met", soon_met()),
+        named("windows alike", windows_alike()),
         named("most tiles", most_tiles()),
         named("wide gaps", wide_gaps()),
         named("ragged starts", ragged_starts()),
@@ -31,7 +32,7 @@ pub fn large_jobs() -> Vec<LargeJob> {
 }
 
 /// A job without rectangles and fills, bounds that hold always, and the quick
-/// run as long as it gets.
+/// runs as long as they get.
 fn shape(tile: u64, tiles: u64, cut: u64) -> Job {
     Job {
         size: tile * tiles,
@@ -86,27 +87,45 @@ fn different_sides() -> Job {
     job
 }
 
-/// 64 windows across and the window side a multiple of 16: 1009 starts on an
-/// axis at the last level, of which nearly all are kept because the stripes
-/// make windows nearly alike. All sides differ here too.
-fn most_starts() -> Job {
+/// 64 windows across and the window side a multiple of 16, so that there are
+/// 1009 starts on an axis at the last level; upright bars side by side, as many
+/// as may stand. `bar` gives each by its number, the left end of its room and
+/// the layout's size.
+fn barred(bar: impl Fn(u64, u64, u64) -> [u64; 4]) -> Job {
     let mut job = shape(1008, MOST_TILES, 1);
-    let pitch = job.size / MOST_RECTS as u64;
-    let stripe = |k: u64| {
-        let left = k * pitch + 50 + k % 3;
-        [left, k, left + 100 + k % 2, job.size - k]
-    };
-    job.rects = (0..MOST_RECTS as u64).map(stripe).collect();
+    let bars = MOST_RECTS as u64;
+    let room = job.size / bars;
+    job.rects = (0..bars).map(|k| bar(k, k * room, job.size)).collect();
     job
 }
 
-/// The same stripes, for an accuracy that level 1 meets: the other levels and
-/// the exact search are not needed.
+/// Nearly all starts are kept by the run for the greatest, because the bars
+/// make windows nearly alike. All sides differ here too.
+fn most_starts() -> Job {
+    barred(|k, room, size| {
+        let left = room + 50 + k % 3;
+        [left, k, left + 100 + k % 2, size - k]
+    })
+}
+
+/// The same bars, for an accuracy that level 1 meets: the other levels and the
+/// exact search are not needed. The run for the least needs one level more.
 fn soon_met() -> Job {
     Job {
         accuracy: 1000,
         ..most_starts()
     }
+}
+
+/// The run for the least keeps every start of every level, and that for the
+/// greatest all but one. Bars that grow shorter towards one side have a poorest
+/// corner, and many a shrunk window has more metal than that; these are of
+/// nearly one length, and wide.
+fn windows_alike() -> Job {
+    barred(|k, room, size| {
+        let (left, inset) = (room + k % 3, k % 16);
+        [left, inset, left + 240 + k % 5, size - inset]
+    })
 }
 
 /// 4096 tiles, as many of them filled as the file has room for.

@@ -8,7 +8,7 @@ use std::ops::Range;
 
 /// Longest side of a random small layout, but for those with long windows.
 const LARGEST_SIDE: u64 = 28;
-/// A window that could be halved once more than the quick run does.
+/// A window that could be halved once more than a quick run does.
 const LONGEST_WINDOW: u64 = 32;
 
 /// A random valid job.

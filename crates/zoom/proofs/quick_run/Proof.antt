@@ -1,4 +1,4 @@
--- `zoom::levels::run` meets its contract. The loop's invariant: the run from level j on is the whole run's answer, and after the window that
+-- `zoom::quick_run` meets its contract. The loop's invariant: the run from level j on is the whole run's answer, and after the window that
 -- stands comes level j. The measure is the number of levels left. Assumes nothing.
 use Prim.Native.Nat.{_-_}
 use mathlib.Core.Path.{sym, _∙_}
@@ -6,8 +6,8 @@ use native.Mathlib.Omega.{arith}
 use borrow.Author.Needs.{needs}
 use Rattle.geometry.specs.Layout.{rectsOf}
 use Rattle.zoom.proofs.Zooming.{RunSoFar, run-begins, run-step, run-answers, run-goes-on, run-small, run-deep}
-use Rattle.zoom.proofs.levels.run.Statement.{statement}
-use Rattle.zoom.proofs.levels.run.Tie as tie
+use Rattle.zoom.proofs.quick_run.Statement.{statement}
+use Rattle.zoom.proofs.quick_run.Tie as tie
 
 abbrev Inv-loop : tie.InvT-loop
 Inv-loop sense rects asked m n w z old₀ new₀ before₀ stride₀ t₀ j₀ old new before stride t j =
@@ -96,8 +96,8 @@ loop-again c =
 loop-less : tie.Need-loop-less Inv-loop μ-loop
 loop-less c = omega (arith, loop-again c .level)
 
-pub run-spec : {M : Type 1} → statement M
-run-spec =
+pub quick-run-spec : {M : Type 1} → statement M
+quick-run-spec =
     tie.close
     (tie.spec
     Inv-loop
