@@ -63,10 +63,10 @@ fn boundary_list() {
 #[test]
 fn sample_jobs() {
     let samples = [
-        ("a", "(fill safe)"),
+        ("a", "(exact (max 4 1 1 1) (min 1 0 0 1))"),
         (
             "stripes",
-            "(zoommin met (levels 4) (low 23) (high 36 8 16) (kept 225))",
+            "(zoommin met (levels 4) (low 23) (high 36 8 16 2) (kept 225))",
         ),
         ("safe", "(fill safe)"),
         ("broken", "(fill broken over 3 0)"),

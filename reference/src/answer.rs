@@ -1,12 +1,12 @@
 //! From the bytes of a job to the bytes of its answer.
 
 use crate::job::{Fault, Job, Refusal};
-use crate::outcome::{Outcome, Quick};
+use crate::outcome::{Exact, Outcome, Quick, Shown, Verdict, Window};
 use crate::sense::Sense;
 use crate::{brute, fast};
 
 /// A buffer of this length, which is the unit's own, has room for every answer.
-pub const ANSWER_ROOM: usize = 656;
+pub const ANSWER_ROOM: usize = 728;
 
 /// Which implementation of the phases to use.
 #[derive(Clone, Copy)]
@@ -42,32 +42,49 @@ impl Method {
 
     /// All phases on a job that was read.
     pub fn outcome(self, job: &Job) -> Outcome {
-        let (exact, [greatest, least], verdict) = match self {
+        match self {
             Method::Brute => {
                 let grid = brute::Grid::new(job);
                 let exact = brute::exact_run(job, &grid);
                 let quick = Sense::BOTH.map(|sense| brute::quick_run(job, &grid, sense, &exact));
-                (exact, quick, brute::verdict(job, &grid))
+                let shapes = |[x1, y1, x2, y2]: [u64; 4]| grid.shapes(x1..x2, y1..y2);
+                shown(job, exact, quick, brute::verdict(job, &grid), shapes)
             }
             Method::Fast => {
                 let cover = fast::drawn_cover(job);
                 let exact = fast::exact_run(job, &cover);
                 let quick = Sense::BOTH.map(|sense| fast::quick_run(job, &cover, sense, &exact));
-                (exact, quick, fast::verdict(job, &cover))
+                let shapes = |corners| fast::shapes(job, corners);
+                shown(job, exact, quick, fast::verdict(job, &cover), shapes)
             }
-        };
-        Outcome {
-            exact,
-            greatest,
-            least,
-            density: density(job, &greatest),
-            verdict,
         }
     }
 
     fn text(self, bytes: &[u8]) -> Result<String, Refusal> {
         let job = self.read(bytes)?;
         Ok(self.outcome(&job).to_string())
+    }
+}
+
+/// What an answer tells of what the phases found. `shapes` counts those of the
+/// box with these corners, and is asked only for the windows that are shown.
+fn shown(
+    job: &Job,
+    exact: Exact,
+    [greatest, least]: [Quick; 2],
+    verdict: Verdict,
+    shapes: impl Fn([u64; 4]) -> u64,
+) -> Outcome {
+    let counted = |window: Window| Shown {
+        window,
+        shapes: shapes(window.corners(job.window)),
+    };
+    Outcome {
+        exact: exact.map(counted),
+        greatest: greatest.map(counted),
+        least: least.map(counted),
+        density: density(job, &greatest),
+        verdict,
     }
 }
 

@@ -1,7 +1,7 @@
 //! The same answers for every legal job, in little time.
 
 use crate::cover::{Cover, Span, Strip};
-use crate::job::{self, Job, Refusal};
+use crate::job::{self, overlap, Job, Refusal};
 use crate::outcome::{End, Exact, Failure, Quick, Side, Verdict, Window};
 use crate::sense::Sense;
 use std::ops::Range;
@@ -14,6 +14,13 @@ pub fn read(bytes: &[u8]) -> Result<Job, Refusal> {
 /// The drawn metal of a job, ready for area questions.
 pub fn drawn_cover(job: &Job) -> Cover {
     Cover::new(job.size, &job.rects)
+}
+
+/// How many rectangles share a unit square with the box X1 Y1 X2 Y2, which is
+/// not empty.
+pub fn shapes(job: &Job, corners: [u64; 4]) -> u64 {
+    let sharing = job.rects.iter().filter(|rect| overlap(rect, &corners));
+    sharing.count() as u64
 }
 
 /// Fillable area of each tile, row by row.

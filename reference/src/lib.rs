@@ -3,7 +3,7 @@
 //!
 //! [`brute`] counts unit squares as the definitions say and serves as the
 //! yardstick on small layouts; [`fast`] takes every legal job. Both share the
-//! reader ([`job`]), the two extremes ([`sense`]), the shape of the results
+//! reader ([`job`]), the two extremes ([`sense`]), the form of the results
 //! ([`outcome`]) and the printing ([`answer`]). [`generate`] makes the jobs on
 //! which implementations are compared.
 

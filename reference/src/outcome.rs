@@ -20,21 +20,42 @@ impl Window {
             self
         }
     }
+
+    /// Corners X1 Y1 X2 Y2 of the window, which has this side.
+    pub fn corners(self, side: u64) -> [u64; 4] {
+        [self.x, self.y, self.x + side, self.y + side]
+    }
 }
 
-/// The greatest and the least window over all positions.
+/// A window as an answer shows it.
 #[derive(Clone, Copy, Debug, PartialEq, Eq)]
-pub struct Exact {
-    pub max: Window,
-    pub min: Window,
+pub struct Shown {
+    pub window: Window,
+    /// How many drawn rectangles share a unit square with the window.
+    pub shapes: u64,
 }
 
-impl Exact {
+/// The greatest and the least window over all positions, as found or as shown.
+#[derive(Clone, Copy, Debug, PartialEq, Eq)]
+pub struct Exact<W = Window> {
+    pub max: W,
+    pub min: W,
+}
+
+impl<W: Copy> Exact<W> {
     /// The extreme window of a sense.
-    pub fn window(&self, sense: Sense) -> Window {
+    pub fn window(&self, sense: Sense) -> W {
         match sense {
             Sense::Greatest => self.max,
             Sense::Least => self.min,
+        }
+    }
+
+    /// The same with another form of its windows.
+    pub fn map<T>(self, form: impl Fn(W) -> T) -> Exact<T> {
+        Exact {
+            max: form(self.max),
+            min: form(self.min),
         }
     }
 }
@@ -47,14 +68,15 @@ pub enum End {
     Exact,
 }
 
-/// A quick run's bracket of the greatest or the least window area.
+/// A quick run's bracket of the greatest or the least window area, its window
+/// as found or as shown.
 #[derive(Clone, Copy, Debug, PartialEq, Eq)]
-pub struct Quick {
+pub struct Quick<W = Window> {
     pub sense: Sense,
     pub end: End,
     pub levels: u64,
     /// The best window found: the floor, or the high end of the least.
-    pub named: Window,
+    pub named: W,
     /// An area that no window passes: the ceiling, or the low end of the least.
     pub limit: u64,
     pub kept: u64,
@@ -64,6 +86,20 @@ impl Quick {
     /// Low and high end of the bracket.
     pub fn bracket(&self) -> (u64, u64) {
         self.sense.bracket(self.named.area, self.limit)
+    }
+}
+
+impl<W> Quick<W> {
+    /// The same with another form of its window.
+    pub fn map<T>(self, form: impl Fn(W) -> T) -> Quick<T> {
+        Quick {
+            sense: self.sense,
+            end: self.end,
+            levels: self.levels,
+            named: form(self.named),
+            limit: self.limit,
+            kept: self.kept,
+        }
     }
 }
 
@@ -93,21 +129,22 @@ pub enum Verdict {
 /// All that an answer tells.
 #[derive(Debug, PartialEq, Eq)]
 pub struct Outcome {
-    pub exact: Exact,
-    pub greatest: Quick,
-    pub least: Quick,
+    pub exact: Exact<Shown>,
+    pub greatest: Quick<Shown>,
+    pub least: Quick<Shown>,
     /// In ten-thousandths, midway between the ends of the greatest's bracket.
     pub density: u64,
     pub verdict: Verdict,
 }
 
-impl Display for Window {
+impl Display for Shown {
     fn fmt(&self, f: &mut Formatter) -> fmt::Result {
-        write!(f, "{} {} {}", self.area, self.x, self.y)
+        let Window { area, x, y } = self.window;
+        write!(f, "{area} {x} {y} {}", self.shapes)
     }
 }
 
-impl Display for Exact {
+impl Display for Exact<Shown> {
     fn fmt(&self, f: &mut Formatter) -> fmt::Result {
         write!(f, "(exact (max {}) (min {}))", self.max, self.min)
     }
@@ -123,7 +160,7 @@ impl Display for End {
     }
 }
 
-impl Display for Quick {
+impl Display for Quick<Shown> {
     fn fmt(&self, f: &mut Formatter) -> fmt::Result {
         let Quick {
             sense,

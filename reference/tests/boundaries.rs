@@ -6,7 +6,7 @@ use common::printed_by_both;
 use reference::answer::{answer, answer_by, printed, Method, Reply, ANSWER_ROOM};
 use reference::generate::{boundary_jobs, large_job, large_jobs, Random};
 use reference::job::{Job, Refusal};
-use reference::outcome::{End, Exact, Failure, Outcome, Quick, Side, Verdict, Window};
+use reference::outcome::{End, Exact, Failure, Outcome, Quick, Shown, Side, Verdict, Window};
 use reference::sense::Sense;
 use reference::{brute, fast};
 
@@ -29,10 +29,24 @@ fn acceptance_and_refusal_at_the_limits() {
 
 #[test]
 fn file_lengths_are_as_named() {
-    let jobs = boundary_jobs();
-    let length = |name: &str| jobs.iter().find(|j| j.name == name).unwrap().job.len();
-    assert_eq!(length("60,000 bytes"), 60_000);
-    assert_eq!(length("60,001 bytes"), 60_001);
+    assert_eq!(boundary_job("60,000 bytes").len(), 60_000);
+    assert_eq!(boundary_job("60,001 bytes").len(), 60_001);
+}
+
+fn boundary_job(name: &str) -> Vec<u8> {
+    let named = boundary_jobs().into_iter().find(|case| case.name == name);
+    named.unwrap().job
+}
+
+#[test]
+fn as_many_shapes_under_a_window_as_may_stand() {
+    let job = boundary_job("256 rectangles under one window");
+    let expected = "(exact (max 256 0 0 256) (min 256 0 0 256))\n\
+                    (zoom met (levels 1) (floor 256 0 0 256) (ceiling 256) (kept 0))\n\
+                    (zoommin exact (levels 6) (low 256) (high 256 0 0 256) (kept 0))\n\
+                    (density 10000)\n\
+                    (fill safe)\n";
+    assert_eq!(printed_by_both(&job), expected);
 }
 
 #[test]
@@ -47,12 +61,12 @@ fn accuracy_0_and_1000() {
         let text = printed_by_both(file(zoom).as_bytes());
         text.lines().nth(1).unwrap().to_string()
     };
-    let met = "(zoom met (levels 1) (floor 16 0 0) (ceiling 18) (kept 1))";
+    let met = "(zoom met (levels 1) (floor 16 0 0 1) (ceiling 18) (kept 1))";
     assert_eq!(line("1000 6"), met);
     // 1000 x 18 = (1000 + 2 x 62.5) x 16: the least accuracy that meets is 63.
     assert_eq!(line("63 6"), met);
     assert_ne!(line("62 6"), met);
-    let exact = "(zoom exact (levels 4) (floor 16 0 0) (ceiling 16) (kept 0))";
+    let exact = "(zoom exact (levels 4) (floor 16 0 0 1) (ceiling 16) (kept 0))";
     assert_eq!(line("0 6"), exact);
 }
 
@@ -63,9 +77,9 @@ fn window_as_large_as_the_layout() {
             "(job (size 8) (window 8) (cut {cut}) (gap 1) (bounds 0 5000) (zoom 0 6))\n\
              (rect 3 3 5 5)\n(end)\n"
         );
-        let expected = "(exact (max 4 0 0) (min 4 0 0))\n\
-                        (zoom met (levels 1) (floor 4 0 0) (ceiling 4) (kept 0))\n\
-                        (zoommin met (levels 3) (low 4) (high 4 0 0) (kept 0))\n\
+        let expected = "(exact (max 4 0 0 1) (min 4 0 0 1))\n\
+                        (zoom met (levels 1) (floor 4 0 0 1) (ceiling 4) (kept 0))\n\
+                        (zoommin met (levels 3) (low 4) (high 4 0 0 1) (kept 0))\n\
                         (density 625)\n\
                         (fill safe)\n";
         assert_eq!(printed_by_both(file.as_bytes()), expected);
@@ -105,23 +119,26 @@ fn buffers_of_every_length() {
 #[test]
 fn room_for_every_answer() {
     const MOST: u64 = u64::MAX;
-    let window = Window {
-        area: MOST,
-        x: MOST,
-        y: MOST,
+    let shown = Shown {
+        window: Window {
+            area: MOST,
+            x: MOST,
+            y: MOST,
+        },
+        shapes: MOST,
     };
     let quick = |sense| Quick {
         sense,
         end: End::Stopped,
         levels: MOST,
-        named: window,
+        named: shown,
         limit: MOST,
         kept: MOST,
     };
     let longest = Outcome {
         exact: Exact {
-            max: window,
-            min: window,
+            max: shown,
+            min: shown,
         },
         greatest: quick(Sense::Greatest),
         least: quick(Sense::Least),

@@ -4,7 +4,7 @@ use reference::answer::{answer, Method, Reply, ANSWER_ROOM};
 use reference::fast;
 use reference::generate::{boundary_jobs, job_with_fault, mixed_job, small_job, Random, SPOILABLE};
 use reference::job::Job;
-use reference::outcome::{End, Exact, Outcome, Quick, Side, Verdict};
+use reference::outcome::{End, Exact, Outcome, Quick, Shown, Side, Verdict};
 use reference::sense::Sense;
 use std::collections::BTreeMap;
 
@@ -56,8 +56,8 @@ fn line_name(sense: Sense) -> &'static str {
     }
 }
 
-fn see_quick(counts: &mut Counts, job: &Job, quick: &Quick, exact: &Exact) {
-    let Quick { sense, named, .. } = *quick;
+fn see_quick(counts: &mut Counts, job: &Job, quick: Quick, exact: &Exact) {
+    let Quick { sense, named, .. } = quick;
     let (low, high) = quick.bracket();
     let extreme = exact.window(sense);
     let line = line_name(sense);
@@ -90,6 +90,49 @@ fn leaves_out_starts(job: &Job, sense: Sense, exact: &Exact, levels: u64) -> boo
     stopped.kept < across * across
 }
 
+/// The names of the windows that an answer shows.
+const SHOWN_NAMES: [&str; 4] = ["max", "min", "floor", "high"];
+
+fn see_shapes(counts: &mut Counts, job: &Job, name: &str, shown: Shown) {
+    let Shown { window, shapes } = shown;
+    let mut see_if = |seen, what: &str| counts.see_if(seen, &format!("{name} {what}"));
+    see_if(shapes == 0, "has no shape");
+    see_if(shapes == 1, "has one shape");
+    see_if(shapes > 1, "has several shapes");
+    see_if(shapes >= 10, "has 10 shapes");
+    see_if(shapes >= 100, "has 100 shapes");
+    let is_full = window.area == job.window * job.window;
+    see_if(shapes == 1 && is_full, "lies inside a shape");
+    // A shape that touches one side has squares in a window wider there; one
+    // that touches a corner has them only in a window wider on all sides.
+    let [x1, y1, x2, y2] = window.corners(job.window);
+    let (left, right) = (x1.saturating_sub(1), x2 + 1);
+    let (below, above) = (y1.saturating_sub(1), y2 + 1);
+    let touching = |wider| fast::shapes(job, wider) - shapes;
+    let mut at_corners = touching([left, below, right, above]);
+    for (side, wider) in [
+        ("left", [left, y1, x2, y2]),
+        ("right", [x1, y1, right, y2]),
+        ("below", [x1, below, x2, y2]),
+        ("above", [x1, y1, x2, above]),
+    ] {
+        see_if(touching(wider) > 0, &format!("is touched {side}"));
+        at_corners -= touching(wider);
+    }
+    see_if(at_corners > 0, "is touched at a corner");
+}
+
+/// Whether the named window has as much metal as the extreme one, but in more
+/// or fewer shapes.
+fn see_other_shapes(counts: &mut Counts, quick: &Quick<Shown>, exact: &Exact<Shown>) {
+    let (named, extreme) = (quick.named, exact.window(quick.sense));
+    let as_good = named.window.area == extreme.window.area;
+    if as_good && named.shapes != extreme.shapes {
+        let line = line_name(quick.sense);
+        counts.see(format!("{line} {} with other shapes", quick.end));
+    }
+}
+
 fn see_outcome(counts: &mut Counts, job: &Job, outcome: &Outcome) {
     let Outcome {
         exact,
@@ -97,8 +140,15 @@ fn see_outcome(counts: &mut Counts, job: &Job, outcome: &Outcome) {
         least,
         ..
     } = outcome;
-    see_quick(counts, job, greatest, exact);
-    see_quick(counts, job, least, exact);
+    let found = exact.map(|shown| shown.window);
+    for quick in [greatest, least] {
+        see_quick(counts, job, quick.map(|shown| shown.window), &found);
+        see_other_shapes(counts, quick, exact);
+    }
+    let shown = [exact.max, exact.min, greatest.named, least.named];
+    for (name, shown) in SHOWN_NAMES.into_iter().zip(shown) {
+        see_shapes(counts, job, name, shown);
+    }
     counts.see_if(greatest.levels > least.levels, "zoom does more levels");
     counts.see_if(least.levels > greatest.levels, "zoommin does more levels");
     counts.see(verdict_name(outcome.verdict));
@@ -144,6 +194,31 @@ fn wanted_of_quick_run(sense: Sense) -> impl Iterator<Item = String> {
         .map(move |what| format!("{} {what}", line_name(sense)))
 }
 
+/// What the windows that an answer shows must be seen to have under them.
+fn wanted_of_shapes() -> impl Iterator<Item = String> {
+    let of_a_window = [
+        "has no shape",
+        "has one shape",
+        "has several shapes",
+        "has 10 shapes",
+        "has 100 shapes",
+        "lies inside a shape",
+        "is touched left",
+        "is touched right",
+        "is touched below",
+        "is touched above",
+        "is touched at a corner",
+    ];
+    let named = SHOWN_NAMES
+        .into_iter()
+        .flat_map(move |name| of_a_window.map(|what| format!("{name} {what}")));
+    let of_a_line = |sense| {
+        [End::Met, End::Stopped, End::Exact]
+            .map(|end| format!("{} {end} with other shapes", line_name(sense)))
+    };
+    named.chain(Sense::BOTH.into_iter().flat_map(of_a_line))
+}
+
 #[test]
 fn small_jobs_reach_every_answer() {
     let mut counts = Counts::default();
@@ -167,8 +242,12 @@ fn small_jobs_reach_every_answer() {
         "ragged starts",
         "full tile",
     ];
-    let of_quick_runs = Sense::BOTH.into_iter().flat_map(wanted_of_quick_run);
-    counts.require(10, of_quick_runs.chain(others.map(String::from)));
+    let wanted = Sense::BOTH
+        .into_iter()
+        .flat_map(wanted_of_quick_run)
+        .chain(wanted_of_shapes())
+        .chain(others.map(String::from));
+    counts.require(10, wanted);
 }
 
 fn reply_name(job: &[u8], buffer: &mut [u8]) -> String {

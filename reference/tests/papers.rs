@@ -28,18 +28,21 @@ fn exact(file: &str) -> Exact {
     exact
 }
 
-/// A quick run, after a check that both methods find the same.
-fn quick(sense: Sense, file: &str) -> Quick {
+/// The quick run for the greatest, after a check that both methods find the same.
+fn greatest(file: &str) -> Quick {
     let job = fast::read(file.as_bytes()).unwrap();
-    let exact = exact(file);
+    let (sense, exact) = (Sense::Greatest, exact(file));
     let quick = fast::quick_run(&job, &fast::drawn_cover(&job), sense, &exact);
     let grid = brute::Grid::new(&job);
     assert_eq!(quick, brute::quick_run(&job, &grid, sense, &exact));
     quick
 }
 
-fn greatest(file: &str) -> Quick {
-    quick(Sense::Greatest, file)
+/// Checks the three lines that show windows.
+fn assert_windows(file: &str, lines: [&str; 3]) {
+    let printed = printed_by_both(file.as_bytes());
+    let shown: Vec<&str> = printed.lines().take(3).collect();
+    assert_eq!(shown, lines, "{file}");
 }
 
 /// Checks the run for the least on a job with several accuracies and levels:
@@ -47,7 +50,8 @@ fn greatest(file: &str) -> Quick {
 fn assert_least(file: impl Fn(&str) -> String, rows: &[&str]) {
     for row in rows {
         let (zoom, line) = row.split_once(": ").unwrap();
-        assert_eq!(quick(Sense::Least, &file(zoom)).to_string(), line, "{row}");
+        let printed = printed_by_both(file(zoom).as_bytes());
+        assert_eq!(printed.lines().nth(2), Some(line), "{row}");
     }
 }
 
@@ -63,9 +67,9 @@ fn failure(side: Side, column: u64, row: u64) -> Failure {
     Failure { side, column, row }
 }
 
-const ANSWER_A: &str = "(exact (max 4 1 1) (min 1 0 0))\n\
-                        (zoom met (levels 2) (floor 4 2 2) (ceiling 4) (kept 0))\n\
-                        (zoommin exact (levels 4) (low 1) (high 1 0 0) (kept 0))\n\
+const ANSWER_A: &str = "(exact (max 4 1 1 1) (min 1 0 0 1))\n\
+                        (zoom met (levels 2) (floor 4 2 2 1) (ceiling 4) (kept 0))\n\
+                        (zoommin exact (levels 4) (low 1) (high 1 0 0 1) (kept 0))\n\
                         (density 2500)\n\
                         (fill safe)\n";
 
@@ -169,18 +173,14 @@ fn k_the_ends_are_tried() {
 
 #[test]
 fn z_no_rectangle() {
-    let file = "(job (size 8) (window 4) (cut 2) (gap 1) (bounds 0 5000) (zoom 0 6))\n(end)\n";
-    for sense in Sense::BOTH {
-        let expected = Quick {
-            sense,
-            end: End::Met,
-            levels: 1,
-            named: window(0, 0, 0),
-            limit: 0,
-            kept: 0,
-        };
-        assert_eq!(quick(sense, file), expected);
-    }
+    assert_windows(
+        "(job (size 8) (window 4) (cut 2) (gap 1) (bounds 0 5000) (zoom 0 6))\n(end)\n",
+        [
+            "(exact (max 0 0 0 0) (min 0 0 0 0))",
+            "(zoom met (levels 1) (floor 0 0 0 0) (ceiling 0) (kept 0))",
+            "(zoommin met (levels 1) (low 0) (high 0 0 0 0) (kept 0))",
+        ],
+    );
 }
 
 const HEAD: &str = "(job (size 8) (window 4) (cut 2) (gap 1) (bounds 0 5000) (zoom 0 6))\n";
@@ -289,7 +289,7 @@ fn a_window_is_halved_at_most_four_times() {
     let quick = greatest(file);
     assert_eq!((quick.end, quick.levels), (End::Exact, 6));
     assert_eq!((quick.named, quick.limit), (window(1024, 4, 4), 1024));
-    let row = "0 6: (zoommin exact (levels 6) (low 784) (high 784 8 8) (kept 0))";
+    let row = "0 6: (zoommin exact (levels 6) (low 784) (high 784 8 8 1) (kept 0))";
     assert_least(|_| file.to_string(), &[row]);
 }
 
@@ -317,11 +317,11 @@ fn least_of_job_a() {
     assert_least(
         |zoom| job_a("0 5000", zoom),
         &[
-            "0 1: (zoommin stopped (levels 1) (low 0) (high 1 0 0) (kept 4))",
-            "0 2: (zoommin stopped (levels 2) (low 0) (high 1 0 0) (kept 5))",
-            "0 3: (zoommin stopped (levels 3) (low 0) (high 1 0 0) (kept 9))",
-            "0 4: (zoommin exact (levels 4) (low 1) (high 1 0 0) (kept 0))",
-            "0 6: (zoommin exact (levels 4) (low 1) (high 1 0 0) (kept 0))",
+            "0 1: (zoommin stopped (levels 1) (low 0) (high 1 0 0 1) (kept 4))",
+            "0 2: (zoommin stopped (levels 2) (low 0) (high 1 0 0 1) (kept 5))",
+            "0 3: (zoommin stopped (levels 3) (low 0) (high 1 0 0 1) (kept 9))",
+            "0 4: (zoommin exact (levels 4) (low 1) (high 1 0 0 1) (kept 0))",
+            "0 6: (zoommin exact (levels 4) (low 1) (high 1 0 0 1) (kept 0))",
         ],
     );
 }
@@ -333,12 +333,12 @@ fn least_of_a_covered_layout() {
     assert_least(
         |zoom| drawn(8, 4, zoom, &["0 0 8 8"]),
         &[
-            "1000 1: (zoommin stopped (levels 1) (low 0) (high 16 0 0) (kept 4))",
-            "1000 2: (zoommin stopped (levels 2) (low 4) (high 16 0 0) (kept 9))",
-            "1000 3: (zoommin met (levels 3) (low 9) (high 16 0 0) (kept 25))",
-            "389 6: (zoommin met (levels 3) (low 9) (high 16 0 0) (kept 25))",
-            "388 3: (zoommin stopped (levels 3) (low 9) (high 16 0 0) (kept 25))",
-            "388 6: (zoommin exact (levels 4) (low 16) (high 16 0 0) (kept 0))",
+            "1000 1: (zoommin stopped (levels 1) (low 0) (high 16 0 0 1) (kept 4))",
+            "1000 2: (zoommin stopped (levels 2) (low 4) (high 16 0 0 1) (kept 9))",
+            "1000 3: (zoommin met (levels 3) (low 9) (high 16 0 0 1) (kept 25))",
+            "389 6: (zoommin met (levels 3) (low 9) (high 16 0 0 1) (kept 25))",
+            "388 3: (zoommin stopped (levels 3) (low 9) (high 16 0 0 1) (kept 25))",
+            "388 6: (zoommin exact (levels 4) (low 16) (high 16 0 0 1) (kept 0))",
         ],
     );
 }
@@ -348,7 +348,7 @@ fn least_met_with_equal_ends() {
     // All metal lies in the quarter that level 1 leaves of the window.
     assert_least(
         |zoom| drawn(8, 8, zoom, &["4 4 8 8"]),
-        &["0 6: (zoommin met (levels 2) (low 16) (high 16 0 0) (kept 0))"],
+        &["0 6: (zoommin met (levels 2) (low 16) (high 16 0 0 1) (kept 0))"],
     );
 }
 
@@ -360,16 +360,16 @@ fn least_is_replaced_by_a_smaller_one() {
     assert_least(
         |zoom| drawn(8, 4, zoom, &["0 0 2 8", "4 0 5 8", "6 0 8 8"]),
         &[
-            "0 1: (zoommin stopped (levels 1) (low 0) (high 8 0 0) (kept 4))",
-            "0 2: (zoommin stopped (levels 2) (low 0) (high 4 2 0) (kept 6))",
-            "167 6: (zoommin met (levels 3) (low 3) (high 4 2 0) (kept 15))",
-            "166 6: (zoommin exact (levels 4) (low 4) (high 4 2 0) (kept 0))",
+            "0 1: (zoommin stopped (levels 1) (low 0) (high 8 0 0 1) (kept 4))",
+            "0 2: (zoommin stopped (levels 2) (low 0) (high 4 2 0 1) (kept 6))",
+            "167 6: (zoommin met (levels 3) (low 3) (high 4 2 0 1) (kept 15))",
+            "166 6: (zoommin exact (levels 4) (low 4) (high 4 2 0 1) (kept 0))",
         ],
     );
     // Here only the search finds the one at 1.
     assert_least(
         |zoom| drawn(5, 3, zoom, &["0 0 1 5", "2 0 3 5"]),
-        &["0 6: (zoommin exact (levels 2) (low 3) (high 3 1 0) (kept 0))"],
+        &["0 6: (zoommin exact (levels 2) (low 3) (high 3 1 0 1) (kept 0))"],
     );
 }
 
@@ -382,16 +382,16 @@ fn least_of_an_earlier_level_stays_on_a_tie() {
     assert_least(
         upright,
         &[
-            "0 1: (zoommin stopped (levels 1) (low 0) (high 4 4 0) (kept 4))",
-            "0 2: (zoommin stopped (levels 2) (low 0) (high 4 4 0) (kept 9))",
-            "0 3: (zoommin stopped (levels 3) (low 0) (high 4 4 0) (kept 25))",
-            "0 6: (zoommin exact (levels 4) (low 4) (high 4 4 0) (kept 0))",
+            "0 1: (zoommin stopped (levels 1) (low 0) (high 4 4 0 1) (kept 4))",
+            "0 2: (zoommin stopped (levels 2) (low 0) (high 4 4 0 1) (kept 9))",
+            "0 3: (zoommin stopped (levels 3) (low 0) (high 4 4 0 1) (kept 25))",
+            "0 6: (zoommin exact (levels 4) (low 4) (high 4 4 0 1) (kept 0))",
         ],
     );
     // The same on the other axis.
     assert_least(
         |zoom| drawn(8, 4, zoom, &["0 0 8 2", "0 5 8 6"]),
-        &["0 6: (zoommin exact (levels 4) (low 4) (high 4 0 4) (kept 0))"],
+        &["0 6: (zoommin exact (levels 4) (low 4) (high 4 0 4 1) (kept 0))"],
     );
 }
 
@@ -401,11 +401,90 @@ fn each_quick_run_ends_on_its_own() {
     assert_eq!(greatest(&square("0 6")).levels, 2);
     assert_least(
         square,
-        &["0 6: (zoommin met (levels 1) (low 0) (high 0 0 0) (kept 0))"],
+        &["0 6: (zoommin met (levels 1) (low 0) (high 0 0 0 0) (kept 0))"],
     );
     // The run for the greatest is met, with 4 and 4, and gives the density.
-    let stopped = "(zoommin stopped (levels 2) (low 0) (high 1 0 0) (kept 5))\n(density 2500)\n";
+    let stopped = "(zoommin stopped (levels 2) (low 0) (high 1 0 0 1) (kept 5))\n(density 2500)\n";
     assert!(printed_by_both(job_a("0 5000", "0 2").as_bytes()).contains(stopped));
+}
+
+#[test]
+fn shapes_that_touch_do_not_count() {
+    // Nine windows side by side, the middle one free: it is touched on all
+    // sides and corners, the first one on two sides.
+    let ring = [
+        "0 0 2 2", "2 0 4 2", "4 0 6 2", "0 2 2 4", "4 2 6 4", "0 4 2 6", "2 4 4 6", "4 4 6 6",
+    ];
+    assert_windows(
+        &drawn(6, 2, "0 6", &ring),
+        [
+            "(exact (max 4 0 0 1) (min 0 2 2 0))",
+            "(zoom exact (levels 3) (floor 4 0 0 1) (ceiling 4) (kept 0))",
+            "(zoommin met (levels 1) (low 0) (high 0 2 2 0) (kept 0))",
+        ],
+    );
+}
+
+#[test]
+fn a_shape_around_the_window_counts() {
+    assert_windows(
+        &drawn(8, 4, "0 6", &["1 1 7 7"]),
+        [
+            "(exact (max 16 1 1 1) (min 9 0 0 1))",
+            "(zoom exact (levels 4) (floor 16 2 2 1) (ceiling 16) (kept 0))",
+            "(zoommin exact (levels 4) (low 9) (high 9 0 0 1) (kept 0))",
+        ],
+    );
+}
+
+#[test]
+fn several_shapes_under_a_window() {
+    // The window at 2 2 has the middle shape and one square of each other. That
+    // at 1 1 has as much, the middle shape and one other, and is found later.
+    let five = |zoom: &str| {
+        let corners = ["1 1 3 3", "5 1 7 3", "1 5 3 7", "5 5 7 7"];
+        drawn(8, 4, zoom, &[&corners[..], &["3 3 5 5"]].concat())
+    };
+    assert_windows(
+        &five("0 6"),
+        [
+            "(exact (max 8 1 1 2) (min 5 0 0 2))",
+            "(zoom exact (levels 4) (floor 8 2 2 5) (ceiling 8) (kept 0))",
+            "(zoommin exact (levels 4) (low 5) (high 5 0 0 2) (kept 0))",
+        ],
+    );
+    assert_windows(
+        &five("0 1"),
+        [
+            "(exact (max 8 1 1 2) (min 5 0 0 2))",
+            "(zoom stopped (levels 1) (floor 5 0 0 2) (ceiling 20) (kept 3))",
+            "(zoommin stopped (levels 1) (low 0) (high 5 0 0 2) (kept 4))",
+        ],
+    );
+}
+
+#[test]
+fn shapes_are_those_of_the_window_named() {
+    // Level 0 finds two shapes at 4 4, which stay beside the one at 1 0; and for
+    // the least it finds the free window at 0 4, which is not the first.
+    assert_windows(
+        &drawn(8, 4, "0 6", &["1 0 5 1", "4 4 6 5", "4 6 6 7"]),
+        [
+            "(exact (max 4 1 0 1) (min 0 0 1 0))",
+            "(zoom exact (levels 4) (floor 4 4 4 2) (ceiling 4) (kept 0))",
+            "(zoommin met (levels 1) (low 0) (high 0 0 4 0) (kept 0))",
+        ],
+    );
+    // The windows at 1 0 and at 4 0 each have one column of metal, of which the
+    // first is in two pieces; level 0 finds the other.
+    assert_windows(
+        &drawn(8, 4, "0 6", &["0 0 2 2", "0 2 2 8", "5 0 6 8"]),
+        [
+            "(exact (max 8 0 0 2) (min 4 1 0 2))",
+            "(zoom exact (levels 4) (floor 8 0 0 2) (ceiling 8) (kept 0))",
+            "(zoommin exact (levels 4) (low 4) (high 4 4 0 1) (kept 0))",
+        ],
+    );
 }
 
 #[test]

@@ -11,7 +11,7 @@ use reference::generate::{
     bytes_of, damaged_job, faulty_job, small_job, small_lines, Line, Random,
 };
 use reference::job::Job;
-use reference::outcome::{End, Exact, Failure, Outcome, Quick, Side, Verdict, Window};
+use reference::outcome::{End, Failure, Outcome, Quick, Shown, Side, Verdict, Window};
 use reference::sense::Sense;
 
 /// Runs a check on random sources with consecutive seeds.
@@ -71,34 +71,60 @@ fn fillable_areas_agree() {
 fn named_windows_and_brackets() {
     for_seeds(50_000, 3000, |random| {
         let job = valid_job(random);
-        let grid = Grid::new(&job);
-        let Outcome {
-            exact,
-            greatest,
-            least,
-            ..
-        } = Method::Fast.outcome(&job);
-        for window in [exact.max, exact.min, greatest.named, least.named] {
-            assert_eq!(window.area, area_at(&job, &grid, window.x, window.y));
-        }
+        let (grid, cover) = (Grid::new(&job), fast::drawn_cover(&job));
+        let exact = fast::exact_run(&job, &cover);
         let positions = 0..job.last_position() + 1;
         for (x, y) in brute::squares(positions.clone(), positions) {
             let area = area_at(&job, &grid, x, y);
             assert!(exact.min.area <= area && area <= exact.max.area);
         }
-        assert_bracket(&job, &greatest, exact.max.area);
-        assert_bracket(&job, &least, exact.min.area);
+        for sense in Sense::BOTH {
+            let quick = fast::quick_run(&job, &cover, sense, &exact);
+            let extreme = exact.window(sense);
+            for window in [extreme, quick.named] {
+                assert_eq!(window.area, area_at(&job, &grid, window.x, window.y));
+            }
+            assert_bracket(&job, &quick, extreme.area);
+        }
     });
 }
 
 /// The extreme lies in the bracket, and after "met" near its middle.
 fn assert_bracket(job: &Job, quick: &Quick, extreme: u64) {
     let (low, high) = quick.bracket();
-    assert!(low <= extreme && extreme <= high, "{quick}");
+    assert!(low <= extreme && extreme <= high, "{quick:?}");
     if quick.end == End::Met {
         let distance = (low + high).abs_diff(2 * extreme);
-        assert!(1000 * distance <= 2 * job.accuracy * extreme, "{quick}");
+        assert!(1000 * distance <= 2 * job.accuracy * extreme, "{quick:?}");
     }
+}
+
+/// A window without metal has no shapes, any other has some. They are at most
+/// all that are drawn, and each has a square of the window for itself.
+#[test]
+fn shapes_under_every_window() {
+    for_seeds(90_000, 3000, |random| {
+        let job = valid_job(random);
+        let grid = Grid::new(&job);
+        let positions = 0..job.last_position() + 1;
+        for (x, y) in brute::squares(positions.clone(), positions) {
+            let area = area_at(&job, &grid, x, y);
+            let shapes = shapes_at(&job, &grid, x, y);
+            let corners = Window { area, x, y }.corners(job.window);
+            assert_eq!(fast::shapes(&job, corners), shapes);
+            assert_eq!(shapes == 0, area == 0);
+            assert!(shapes <= area.min(job.rects.len() as u64));
+        }
+        let Outcome {
+            exact,
+            greatest,
+            least,
+            ..
+        } = Method::Fast.outcome(&job);
+        for Shown { window, shapes } in [exact.max, exact.min, greatest.named, least.named] {
+            assert_eq!(shapes, shapes_at(&job, &grid, window.x, window.y));
+        }
+    });
 }
 
 /// More levels never widen a bracket, and change nothing in a run that ends
@@ -122,7 +148,8 @@ fn more_levels_narrow_the_bracket() {
 
 fn assert_narrows(fewer: &Quick, more: &Quick) {
     let ((low, high), (higher_low, lower_high)) = (fewer.bracket(), more.bracket());
-    assert!(low <= higher_low && lower_high <= high, "{fewer} {more}");
+    let narrows = low <= higher_low && lower_high <= high;
+    assert!(narrows, "{fewer:?} {more:?}");
     if fewer.end != End::Stopped {
         assert_eq!(fewer, more);
     }
@@ -130,6 +157,10 @@ fn assert_narrows(fewer: &Quick, more: &Quick) {
 
 fn area_at(job: &Job, grid: &Grid, x: u64, y: u64) -> u64 {
     grid.area(x..x + job.window, y..y + job.window)
+}
+
+fn shapes_at(job: &Job, grid: &Grid, x: u64, y: u64) -> u64 {
+    grid.shapes(x..x + job.window, y..y + job.window)
 }
 
 /// Chosen squares of a layout, row by row.
@@ -214,7 +245,7 @@ fn assert_breaks(job: &Job, grid: &Grid, placement: &Placement, named: Failure) 
 }
 
 /// Magnifying a job by an odd factor keeps the number of halvings, so all of
-/// the answer is the small one's, magnified. This holds the fast method at
+/// the answer is the small one's, magnified, its shapes as many. This holds the fast method at
 /// full size to the squares counted at small size.
 #[test]
 fn magnified_jobs_have_magnified_answers() {
@@ -247,21 +278,20 @@ fn magnify(line: &mut Line, factor: u64) {
 
 fn magnified(small: Outcome, factor: u64) -> Outcome {
     let area = |area: u64| area * factor * factor;
-    let window = |w: Window| Window {
-        area: area(w.area),
-        x: w.x * factor,
-        y: w.y * factor,
+    let shown = |Shown { window, shapes }| Shown {
+        window: Window {
+            area: area(window.area),
+            x: window.x * factor,
+            y: window.y * factor,
+        },
+        shapes,
     };
-    let quick = |q: Quick| Quick {
-        named: window(q.named),
-        limit: area(q.limit),
-        ..q
+    let quick = |found: Quick<Shown>| Quick {
+        limit: area(found.limit),
+        ..found.map(shown)
     };
     Outcome {
-        exact: Exact {
-            max: window(small.exact.max),
-            min: window(small.exact.min),
-        },
+        exact: small.exact.map(shown),
         greatest: quick(small.greatest),
         least: quick(small.least),
         ..small

@@ -1,7 +1,7 @@
 -- The candidate lemma, without bounds, one argument for both axes and both senses: where a window's area is an extreme for the first time
 -- as the window moves along an axis, the window stands at the start, at the end, or one of its edges meets a side of a rectangle.
 use Prim.Native.Nat.{ℕ, zero, suc, _+_, _-_, _*_, _≤_, _<_}
-use mathlib.Core.Path.{_≡_, refl, sym, ap, ap₂, subst₂, _∙_}
+use mathlib.Core.Path.{_≡_, refl, sym, subst₂, _∙_}
 use mathlib.Core.Logic.{_⊎_, inl, inr}
 use mathlib.Core.List.{List, [], _∷_}
 use native.Mathlib.Nat.{le-trans, le-of-lt, mul-le-mul-right, suc-add, mul-comm}
@@ -13,10 +13,11 @@ use Rattle.laws.proofs.Tests.{le-or-lt}
 use Rattle.geometry.specs.declared.Rect.{Rect}
 use Rattle.geometry.specs.declared.Sense.{Sense}
 use Rattle.geometry.specs.declared.Sense.the-variants.{Greatest, Least}
-use Rattle.geometry.specs.Count.{one-if}
+use Rattle.geometry.specs.Count.{one-if, rectSum}
 use Rattle.geometry.specs.Layout.{windowBox, Disjoint}
 use Rattle.geometry.specs.Extreme.{Bounded}
 use Rattle.geometry.specs.Overlaps.{common, overlapSum}
+use Rattle.geometry.proofs.Counting.{rect-cong}
 use Rattle.geometry.proofs.Overlaps.{overlap-is-area}
 use Rattle.extremes.specs.Exact.{windowArea}
 use Rattle.extremes.specs.Search.{side, nearSide, farSide}
@@ -117,9 +118,8 @@ part-straight s a b x e k low high = go s low high (le-or-lt a b)
 -- ---- rectangles with weights, added up
 
 -- of each rectangle the part from a to b that lies in the window at x, times its weight
-unfoldable pub weightedSum : (a b weight : Rect → ℕ) → List Rect → (w x : ℕ) → ℕ
-weightedSum a b weight [] w x = 0
-weightedSum a b weight (r ∷ rs) w x = common (a r) (b r) x (x + w) * weight r + weightedSum a b weight rs w x
+abbrev pub weightedSum : (a b weight : Rect → ℕ) → List Rect → (w x : ℕ) → ℕ
+weightedSum a b weight rs w x = rectSum rs (λ r. common (a r) (b r) x (x + w) * weight r)
 
 -- an edge of the window at p meets a rectangle: the low edge its side `low`, or the high edge its side `high`
 pub data Meets (low high : Rect → ℕ) (w p : ℕ) : List Rect → Type 0 where
@@ -153,7 +153,7 @@ module _ (s : Sense) (a b weight : Rect → ℕ) (w : ℕ) where
   high r = highMeets s (a r) (b r)
 
   meets-or-straight : (rs : List Rect) (x : ℕ) → Meets low high w (suc x) rs ⊎ Straight s (weightedSum a b weight rs w) x
-  unfolding weightedSum
+  unfolding rectSum
   meets-or-straight [] x = inr (none-straight s)
   meets-or-straight (r ∷ rs) x = go (ℕ-discrete (low r) (suc x)) (ℕ-discrete (high r) (suc x + w)) (meets-or-straight rs x)
     where
@@ -205,18 +205,10 @@ candidate-of s a b weight w rs last (suc x) h = go (ℕ-discrete (suc x) last) (
 
 -- ---- both axes
 
--- with y fixed the area is a sum of columns times rows; with x fixed, of rows times columns
-overlap-across : (rs : List Rect) (w x y : ℕ) →
-    overlapSum rs (windowBox w x y) ≡ weightedSum (side 0) (side 2) (λ r. common (r .y1) (r .y2) y (y + w)) rs w x
-unfolding overlapSum weightedSum
-overlap-across [] w x y = refl
-overlap-across (r ∷ rs) w x y = ap (λ (k : ℕ). common (r .x1) (r .x2) x (x + w) * common (r .y1) (r .y2) y (y + w) + k) (overlap-across rs w x y)
-
+-- with y fixed the sum of overlaps is one of columns times rows, as it stands; with x fixed, of rows times columns
 overlap-up : (rs : List Rect) (w x y : ℕ) →
     overlapSum rs (windowBox w x y) ≡ weightedSum (side 1) (side 3) (λ r. common (r .x1) (r .x2) x (x + w)) rs w y
-unfolding overlapSum weightedSum
-overlap-up [] w x y = refl
-overlap-up (r ∷ rs) w x y = ap₂ _+_ (mul-comm (common (r .x1) (r .x2) x (x + w)) (common (r .y1) (r .y2) y (y + w))) (overlap-up rs w x y)
+overlap-up rs w x y = rect-cong rs _ _ (λ r. mul-comm (common (r .x1) (r .x2) x (x + w)) (common (r .y1) (r .y2) y (y + w)))
 
 -- f, a sum of weighted parts along an axis
 candidate-on : (s : Sense) (axis : ℕ) (weight : Rect → ℕ) (rs : List Rect) (w last p : ℕ) (f : ℕ → ℕ) →
@@ -235,7 +227,7 @@ pub candidate-across : (s : Sense) (rs : List Rect) (w last x y : ℕ) → Disjo
     Candidate (side (nearSide s 0)) (side (farSide s 0)) w last x rs
 candidate-across s rs w last x y d =
     candidate-on s 0 (λ r. common (r .y1) (r .y2) y (y + w)) rs w last x (λ z. windowArea rs w z y)
-    (λ z. overlap-is-area rs (windowBox w z y) d ∙ overlap-across rs w z y)
+    (λ z. overlap-is-area rs (windowBox w z y) d)
 
 pub candidate-up : (s : Sense) (rs : List Rect) (w last x y : ℕ) → Disjoint rs → FirstBest s (λ z. windowArea rs w x z) last y →
     Candidate (side (nearSide s 1)) (side (farSide s 1)) w last y rs

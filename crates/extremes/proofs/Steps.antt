@@ -3,7 +3,6 @@ use Prim.Native.Nat.{ℕ, _+_, _≤_, _<_}
 use mathlib.Core.Path.{_≡_, refl, sym, ap, _∙_}
 use mathlib.Core.Bool.{Bool, true, false}
 use mathlib.Core.List.{List, [], _∷_}
-use native.Mathlib.Nat.{zero-add}
 use native.Mathlib.Numerals.{add-one}
 use lib.Dec.{ltb}
 use lib.ListN.{length, getD, take, drop, drop-of-length-le}
@@ -11,9 +10,8 @@ use lib.Seq.{drop-cons}
 use borrow.Author.Tests.{lt-ltb, le-ltb, eq-eqb, ne-eqb}
 use Rattle.geometry.specs.declared.Spot.{Spot}
 use Rattle.geometry.specs.declared.Sense.{Sense}
-use Rattle.geometry.specs.declared.Rect.{Rect}
 use Rattle.geometry.specs.Sizes.{widest, SmallList}
-use Rattle.geometry.specs.Layout.{rectsOf, coveredArea, Drawn}
+use Rattle.geometry.specs.Layout.{rectsOf, Drawn}
 use Rattle.buffers.specs.Written.{Front}
 use Rattle.geometry.specs.Strips.{stripOf, stripSum, StripSmall}
 use Rattle.geometry.specs.Extreme.{better, spotAt}
@@ -90,13 +88,7 @@ strip-row t before after r s w xs y b c d f e =
     (λ x b. ap (λ (a : ℕ). leading s b (record { area = a; x = x; y = y }))
     (ap (λ (l : List ℕ). stripSum l x (x + w)) (front-take before _ after r f) ∙ strip-is-area (rectsOf t) x y (x + w) (y + w) (d .apart)))
 
--- the window at the origin
-pub first-area : (rs : List Rect) (w a : ℕ) → a ≡ coveredArea rs (record { x1 = 0; y1 = 0; x2 = w; y2 = w }) →
-    _≡_ {A = Spot} (record { area = a; x = 0; y = 0 }) (spotAt (windowArea rs w) 0 0)
-first-area rs w a e =
-    ap (λ (k : ℕ). record { area = k; x = 0; y = 0 }) (e ∙ ap (λ (k : ℕ). coveredArea rs (record { x1 = 0; y1 = 0; x2 = k; y2 = k })) (sym (zero-add w)))
-
--- the search begins with it
+-- the search begins with the window at the origin
 pub rows-start : (f : ℕ → ℕ → ℕ) (s : Sense) (xs ys : List ℕ) (b : Spot) → b ≡ spotAt f 0 0 →
     leadingInRows s f xs ys b ≡ leadingInRows s f xs ys (spotAt f 0 0)
 rows-start f s xs ys b e = ap (leadingInRows s f xs ys) e

@@ -5,7 +5,6 @@
 // them, so the work is set by the number of rectangles and not by coordinates.
 use geometry::MOST_RECTS;
 use geometry::RECTS_ROOM;
-use geometry::Rect;
 use geometry::Sense;
 use geometry::Spot;
 ghost use Prim.Native.Nat.{_+_, _*_, _≤_, _<_};
@@ -243,16 +242,12 @@ pub fn first_window(rects: &[u64], w: u64) -> Spot
     requires { ⌜ Drawn (now rects) ⌝ }
     ensures { λ r. ⌜ r ≡ spotAt (windowArea (rectsOf (now (rects .entry))) w) 0 0 ⌝ }
 {
-    let area = geometry::area(
-        rects,
-        Rect {
-            x1: 0,
-            y1: 0,
-            x2: w,
-            y2: w,
-        },
-    );
-    Spot { area, x: 0, y: 0 }
+    let cover = geometry::cover_of(rects, geometry::window_box(w, 0, 0));
+    Spot {
+        area: cover.area,
+        x: 0,
+        y: 0,
+    }
 }
 
 // Tries the windows at every listed x and y, after the one at (0, 0).

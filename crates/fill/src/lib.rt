@@ -1,5 +1,6 @@
 // Fillable areas of tiles, and the verdict on a planned fill.
 use geometry::Rect;
+use geometry::window_box;
 ghost use Prim.Native.Nat.{suc, _*_, _≤_};
 ghost use mathlib.Core.Path.{_≡_};
 ghost use Rattle.geometry.specs.Sizes.{widest};
@@ -54,14 +55,7 @@ pub fn tile_box(side: u64, i: u64, j: u64) -> Rect
     requires { ⌜ (suc i * side ≤ widest) × (suc j * side ≤ widest) ⌝ }
     ensures { λ b. ⌜ b ≡ tile side i j ⌝ }
 {
-    let x = i * side;
-    let y = j * side;
-    Rect {
-        x1: x,
-        y1: y,
-        x2: x + side,
-        y2: y + side,
-    }
+    window_box(side, i * side, j * side)
 }
 
 // The fillable area of a box, such as a tile. The table is lent without padding:

@@ -1,7 +1,7 @@
 // The loads of all tiles.
 use crate::Plan;
 use crate::tile_box;
-use geometry::area;
+use geometry::cover_of;
 ghost use Prim.Native.Nat.{_*_, _≤_, _<_};
 ghost use mathlib.Core.Path.{_≡_};
 ghost use lib.ListN.{length};
@@ -17,7 +17,8 @@ fn load_at(rects: &[u64], amounts: &[u64], plan: Plan, t: u64) -> u64
 {
     let i = t % plan.across;
     let j = t / plan.across;
-    area(rects, tile_box(plan.side, i, j)) + amounts[t as usize]
+    let cover = cover_of(rects, tile_box(plan.side, i, j));
+    cover.area + amounts[t as usize]
 }
 
 // Writes the load of each tile at the front of a table, row by row.

@@ -1,12 +1,14 @@
--- Laws of the one counting sum: congruence, order, addition, splits, exchange of the axes; then the same for boxes.
+-- Laws of the one counting sum: congruence, order, addition, splits, exchange of the axes; then the same for boxes, and congruence for
+-- lists of rectangles.
 use Prim.Native.Nat.{ℕ, zero, suc, _+_, _-_, _*_, _≤_, _<_}
 use mathlib.Core.Path.{_≡_, refl, sym, ap, ap₂, _∙_}
+use mathlib.Core.List.{List, [], _∷_}
 use mathlib.Core.Logic.{_⊎_, inl, inr}
 use native.Mathlib.Nat.{add-zero, add-suc, add-assoc, zero-add, mul-comm, le-trans, le-of-eq}
 use native.Mathlib.Omega.{arith}
 use Rattle.laws.proofs.Tests.{le-or-lt}
 use Rattle.geometry.specs.declared.Rect.{Rect}
-use Rattle.geometry.specs.Count.{sum, span, boxSum}
+use Rattle.geometry.specs.Count.{sum, span, boxSum, rectSum}
 
 -- the unit square (x, y) lies in the box
 pub record Inside (b : Rect) (x y : ℕ) : Type 0 where
@@ -205,3 +207,10 @@ box-above b f h =
     let row = span-above (b .y1) (b .y2) (λ y. span (b .x1) (b .x2) (λ x. f x y)) h in
     let at = span-above (b .x1) (b .x2) (λ x. f x (row .0)) (row .3) in
     (at .0, row .0, record { left = at .1; right = at .2; low = row .1; high = row .2 }, at .3)
+
+-- ---- lists of rectangles
+
+pub rect-cong : (rs : List Rect) (f g : Rect → ℕ) → ((r : Rect) → f r ≡ g r) → rectSum rs f ≡ rectSum rs g
+unfolding rectSum
+rect-cong [] f g h = refl
+rect-cong (r ∷ rs) f g h = ap₂ _+_ (h r) (rect-cong rs f g h)

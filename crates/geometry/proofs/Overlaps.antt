@@ -5,13 +5,14 @@ use mathlib.Core.Path.{_≡_, refl, sym, ap, ap₂, _∙_, subst}
 use mathlib.Core.Bool.{Bool, true, false, _&&_, _||_}
 use mathlib.Core.List.{List, [], _∷_, _++_}
 use mathlib.Core.Logic.{_⊎_, inl, inr}
+use native.Mathlib.Nat.{add-zero}
 use native.Mathlib.Omega.{arith}
 use lib.Dec.{T, leb, ltb}
 use borrow.Author.Tests.{lt-ltb, le-ltb, le-leb, lt-leb}
 use Rattle.laws.proofs.Tests.{le-or-lt}
 use Rattle.geometry.specs.declared.Rect.{Rect}
-use Rattle.geometry.specs.Count.{sum, span, boxSum, one-if}
-use Rattle.geometry.specs.Layout.{holds, covered, coveredArea, Disjoint}
+use Rattle.geometry.specs.Count.{sum, span, boxSum, one-if, rectSum}
+use Rattle.geometry.specs.Layout.{holds, covered, coveredArea, sharesSquare, Disjoint}
 use Rattle.geometry.specs.Overlaps.{common, overlap, overlapSum}
 use Rattle.geometry.specs.Strips.{part, stripOf, stripSum}
 use Rattle.geometry.proofs.Counting.{box-cong, box-le, box-plus, box-const, box-product}
@@ -89,15 +90,24 @@ area-cons r rs b h =
     ∙ box-plus b (λ x y. one-if (holds r x y)) (λ x y. one-if (covered rs x y))
     ∙ ap (λ (k : ℕ). k + coveredArea rs b) (one-overlap r b)
 
-pub overlap-is-area : (rs : List Rect) (b : Rect) → Disjoint rs → coveredArea rs b ≡ overlapSum rs b
-unfolding covered Disjoint overlapSum
-overlap-is-area [] b d = box-const b 0 ∙ nothing
+pub nothing-covered : (b : Rect) → coveredArea [] b ≡ 0
+unfolding covered
+nothing-covered b = box-const b 0 ∙ none
   where
-    nothing : (b .y2 - b .y1) * ((b .x2 - b .x1) * 0) ≡ 0
-    nothing = omega arith
+    none : (b .y2 - b .y1) * ((b .x2 - b .x1) * 0) ≡ 0
+    none = omega arith
+
+pub overlap-is-area : (rs : List Rect) (b : Rect) → Disjoint rs → coveredArea rs b ≡ overlapSum rs b
+unfolding covered Disjoint rectSum
+overlap-is-area [] b d = nothing-covered b
 overlap-is-area (r ∷ rs) b d =
     area-cons r rs b (d .0)
     ∙ ap (λ (k : ℕ). overlap r b + k) (overlap-is-area rs b (d .1))
+
+-- a rectangle by itself shares a unit square with a box where its overlap is not 0
+pub shares-overlap : (r b : Rect) → sharesSquare (r ∷ []) b ≡ ltb 0 (overlap r b)
+unfolding covered Disjoint rectSum
+shares-overlap r b = ap (λ (k : ℕ). ltb 0 k) (overlap-is-area (r ∷ []) b (λ x y p q. q, tt) ∙ add-zero (overlap r b))
 
 -- ---- strips
 
@@ -125,7 +135,7 @@ part-sum met a b h s x1 x2 nothing =
 -- a strip's sum is the sum of overlaps with the box between its rows, disjoint or not
 pub strip-is-overlap : (rs : List Rect) (x1 y1 x2 y2 : ℕ) →
     stripSum (stripOf rs y1 y2) x1 x2 ≡ overlapSum rs (record { x1 = x1; y1 = y1; x2 = x2; y2 = y2 })
-unfolding stripOf stripSum overlapSum
+unfolding stripOf stripSum rectSum
 strip-is-overlap [] x1 y1 x2 y2 = refl
 strip-is-overlap (r ∷ rs) x1 y1 x2 y2 =
     part-sum rows (r .x1) (r .x2) rows (stripOf rs y1 y2) x1 x2 (λ p. omega (arith, ap (λ (k : ℕ). common (r .x1) (r .x2) x1 x2 * k) (none p)))

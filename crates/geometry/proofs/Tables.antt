@@ -1,7 +1,7 @@
 -- Tables of numbers, four to a rectangle: the rectangle at a place, and a table that grows by one.
 use Prim.Native.Nat.{ℕ, zero, suc, _+_, _*_, _≤_, _<_}
-use mathlib.Core.Path.{_≡_, refl, sym, ap, _∙_}
-use mathlib.Core.Bool.{Bool, true, false, _||_, or-assoc}
+use mathlib.Core.Path.{_≡_, refl, sym, ap, subst, _∙_}
+use mathlib.Core.Bool.{Bool, false, _||_, or-assoc, or-false}
 use mathlib.Core.Logic.{_⊎_, inl, inr}
 use mathlib.Core.List.{List, [], _∷_, _++_}
 use native.Mathlib.Numerals.{add-one, add-two, add-three}
@@ -108,10 +108,6 @@ disjoint-more (r′ ∷ rs) r d h = (
   disjoint-more rs r (d .1) (λ x y p q. h x y p (T-right (holds r′ x y) (covered rs x y) q)),
 )
   where
-    last : (p : Bool) → T (p || false) → T p
-    last true q = tt
-    last false q = q
-
     go : (x y : ℕ) → T (holds r′ x y) → T (covered rs x y) ⊎ T (holds r x y || false) → ⊥
     go x y p (inl q) = d .0 x y p q
-    go x y p (inr q) = h x y (last (holds r x y) q) (T-left (holds r′ x y) (covered rs x y) p)
+    go x y p (inr q) = h x y (subst T (or-false (holds r x y)) q) (T-left (holds r′ x y) (covered rs x y) p)

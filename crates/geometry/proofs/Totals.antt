@@ -1,16 +1,19 @@
 -- Sums that a loop forms over a table, four numbers to a rectangle or three to a rectangle of a strip, and that 64 bits hold them.
 use Prim.Native.Nat.{ℕ, _+_, _*_, _^_, _≤_, _<_}
-use mathlib.Core.Path.{_≡_, refl, sym, ap, _∙_}
+use mathlib.Core.Path.{_≡_, refl, sym, ap, ap₂, _∙_}
 use mathlib.Core.List.{List, [], _∷_}
 use native.Mathlib.Nat.{zero-add, mul-le-mul}
 use native.Mathlib.Omega.{arith}
+use lib.Dec.{ltb}
 use lib.ListN.{length, getD, drop, length-drop}
 use Rattle.geometry.specs.declared.Rect.{Rect}
+use Rattle.geometry.specs.declared.Cover.{Cover}
 use Rattle.geometry.specs.Sizes.{widest, largest, SmallList}
-use Rattle.geometry.specs.Layout.{coveredArea, rectsOf, Drawn}
+use Rattle.geometry.specs.Count.{one-if, rectSum}
+use Rattle.geometry.specs.Layout.{sharesSquare, shapesUnder, coverOf, rectsOf, Drawn}
 use Rattle.geometry.specs.Overlaps.{rectAt, common, overlap, overlapSum}
 use Rattle.geometry.specs.Strips.{stripSum, StripSmall}
-use Rattle.geometry.proofs.Overlaps.{overlap-is-area}
+use Rattle.geometry.proofs.Overlaps.{one-if-small, overlap-is-area, shares-overlap}
 use Rattle.geometry.proofs.Tables.{three-at, rects-next, rects-end}
 
 -- a sum over a table, part of it formed: `total` is what the numbers before place i add
@@ -46,21 +49,45 @@ overlap-small t i b d =
     (common-small (getD t i 0) (getD t (i + 2) 0) (b .x1) (b .x2) (d .small (i + 2)))
     (common-small (getD t (i + 1) 0) (getD t (i + 3) 0) (b .y1) (b .y2) (d .small (i + 3)))
 
--- the sum of overlaps: one rectangle more, and the end
-pub overlaps-next : (t : List ℕ) (b : Rect) (total i v : ℕ) → Drawn t → SoFar (λ s. overlapSum (rectsOf s) b) t total i → i + 3 < length t →
-    v ≡ overlap (rectAt t i) b → SoFar (λ s. overlapSum (rectsOf s) b) t (total + v) (i + 4)
-unfolding overlapSum
-overlaps-next t b total i v d s h e =
-    rw e
-    (so-far-next (λ s. overlapSum (rectsOf s) b) t total i 4 (overlap (rectAt t i) b) s (ap (λ (rs : List Rect). overlapSum rs b) (rects-next t i h))
-    (overlap-small t i b (record { small = d .small })) (omega arith) (omega arith))
+-- a sum over the rectangles of a table: one rectangle more, and the end
+rects-sum-next : (f : Rect → ℕ) (t : List ℕ) (total i v : ℕ) → SoFar (λ s. rectSum (rectsOf s) f) t total i → i + 3 < length t →
+    v ≡ f (rectAt t i) → v ≤ largest → SoFar (λ s. rectSum (rectsOf s) f) t (total + v) (i + 4)
+unfolding rectSum
+rects-sum-next f t total i v s h e k =
+    so-far-next (λ s. rectSum (rectsOf s) f) t total i 4 v s
+    (ap (λ (rs : List Rect). rectSum rs f) (rects-next t i h) ∙ ap (λ (a : ℕ). a + rectSum (rectsOf (drop (i + 4) t)) f) (sym e))
+    k (omega arith) (omega arith)
 
-pub overlaps-end : (t : List ℕ) (b : Rect) (total i : ℕ) → Drawn t → SoFar (λ s. overlapSum (rectsOf s) b) t total i → length t ≤ i + 3 →
-    total ≡ coveredArea (rectsOf t) b
-unfolding overlapSum
-overlaps-end t b total i d s h =
-    so-far-end (λ s. overlapSum (rectsOf s) b) t total i s (ap (λ (rs : List Rect). overlapSum rs b) (rects-end t i h))
-    ∙ sym (overlap-is-area (rectsOf t) b (d .apart))
+rects-sum-end : (f : Rect → ℕ) (t : List ℕ) (total i : ℕ) → SoFar (λ s. rectSum (rectsOf s) f) t total i → length t ≤ i + 3 →
+    total ≡ rectSum (rectsOf t) f
+unfolding rectSum
+rects-sum-end f t total i s h = so-far-end (λ s. rectSum (rectsOf s) f) t total i s (ap (λ (rs : List Rect). rectSum rs f) (rects-end t i h))
+
+-- the area of a box and the shapes under it, part of both formed
+pub record CoverSoFar (t : List ℕ) (b : Rect) (total count i : ℕ) : Type 0 where
+  pub area : SoFar (λ s. overlapSum (rectsOf s) b) t total i
+  pub shapes : SoFar (λ s. shapesUnder (rectsOf s) b) t count i
+
+pub cover-start : (t : List ℕ) (b : Rect) → CoverSoFar t b 0 0 0
+cover-start t b = record { area = so-far-start _ t; shapes = so-far-start _ t }
+
+pub cover-next : (t : List ℕ) (b : Rect) (total count i v k : ℕ) → SmallList t → CoverSoFar t b total count i → i + 3 < length t →
+    v ≡ overlap (rectAt t i) b → k ≡ one-if (ltb 0 v) → CoverSoFar t b (total + v) (count + k) (i + 4)
+cover-next t b total count i v k d s h e c =
+    record {
+      area = rects-sum-next (λ r. overlap r b) t total i v (s .area) h e (omega (arith, e, overlap-small t i b d));
+      shapes =
+          rects-sum-next (λ r. one-if (sharesSquare (r ∷ []) b)) t count i k (s .shapes) h
+          (c ∙ ap (λ (n : ℕ). one-if (ltb 0 n)) e ∙ ap one-if (sym (shares-overlap (rectAt t i) b)))
+          (omega (arith, c, one-if-small (ltb 0 v)));
+    }
+
+pub cover-end : (t : List ℕ) (b : Rect) (total count i : ℕ) → Drawn t → CoverSoFar t b total count i → length t ≤ i + 3 →
+    _≡_ {A = Cover} (record { area = total; shapes = count }) (coverOf (rectsOf t) b)
+cover-end t b total count i d s h =
+    ap₂ {C = Cover} (λ (a n : ℕ). record { area = a; shapes = n })
+    (rects-sum-end (λ r. overlap r b) t total i (s .area) h ∙ sym (overlap-is-area (rectsOf t) b (d .apart)))
+    (rects-sum-end (λ r. one-if (sharesSquare (r ∷ []) b)) t count i (s .shapes) h)
 
 -- what one rectangle of a strip has between two columns
 abbrev pub termAt : List ℕ → (i x1 x2 : ℕ) → ℕ

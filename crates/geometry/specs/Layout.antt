@@ -1,12 +1,14 @@
--- Document 01, "The job file" and "Areas": drawn rectangles, covered unit squares, the area of a window.
+-- Document 01, "The job file" and "Areas": drawn rectangles, covered unit squares, the area of a window; and document 02's request 2, the shapes
+-- under it.
 use Prim.Native.Nat.{ℕ, _+_, _≤_}
 use mathlib.Core.Bool.{Bool, false, _&&_, _||_}
 use mathlib.Core.List.{List, [], _∷_}
 use lib.Dec.{T, leb, ltb}
 use lib.ListN.{length, getD}
 use Rattle.geometry.specs.declared.Rect.{Rect}
+use Rattle.geometry.specs.declared.Cover.{Cover}
 use Rattle.geometry.specs.Sizes.{widest, rectsRoom}
-use Rattle.geometry.specs.Count.{one-if, boxSum}
+use Rattle.geometry.specs.Count.{one-if, boxSum, rectSum}
 
 -- whether a rectangle covers the unit square (x, y): its low sides belong to it, its high sides do not
 abbrev pub holds : Rect → ℕ → ℕ → Bool
@@ -21,9 +23,18 @@ covered (r ∷ rs) x y = holds r x y || covered rs x y
 abbrev pub coveredArea : List Rect → Rect → ℕ
 coveredArea rs b = boxSum b (λ x y. one-if (covered rs x y))
 
--- document 01's fault 9, "shares a unit square with one that stands": a covered unit square lies in the box
+-- "shares a unit square with", of document 01's fault 9 and document 02's request 2: a covered unit square lies in the box
 abbrev pub sharesSquare : List Rect → Rect → Bool
 sharesSquare rs b = ltb 0 (coveredArea rs b)
+
+-- request 2's shapes under a box: the number of drawn rectangles that, each by itself, share a unit square with it. It is 0 exactly if the area
+-- is, for every list of rectangles: `no-shapes→no-area` and `no-area→no-shapes` in proofs/Sharing.antt
+abbrev pub shapesUnder : List Rect → Rect → ℕ
+shapesUnder rs b = rectSum rs (λ r. one-if (sharesSquare (r ∷ []) b))
+
+-- both numbers of a box
+abbrev pub coverOf : List Rect → Rect → Cover
+coverOf rs b = record { area = coveredArea rs b; shapes = shapesUnder rs b }
 
 -- the window of side w at (x, y)
 abbrev pub windowBox : ℕ → ℕ → ℕ → Rect

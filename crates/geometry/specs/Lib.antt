@@ -6,3 +6,4 @@ pub mod Overlaps
 pub mod Strips
 pub mod Row
 pub mod JobA
+pub mod Cases

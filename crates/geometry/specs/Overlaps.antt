@@ -1,9 +1,10 @@
 -- What the code adds up in place of counting unit squares: overlaps. A buyer need not read it, since no contract of the unit's public functions
 -- names it: for disjoint rectangles `overlapSum` equals `coveredArea` (proofs/Overlaps.antt).
 use Prim.Native.Nat.{ℕ, _+_, _-_, _*_, min, max}
-use mathlib.Core.List.{List, [], _∷_}
+use mathlib.Core.List.{List}
 use lib.ListN.{getD}
 use Rattle.geometry.specs.declared.Rect.{Rect}
+use Rattle.geometry.specs.Count.{rectSum}
 
 -- the rectangle whose numbers stand from place i of a table
 abbrev pub rectAt : List ℕ → ℕ → Rect
@@ -18,6 +19,5 @@ abbrev pub overlap : Rect → Rect → ℕ
 overlap r b = common (r .x1) (r .x2) (b .x1) (b .x2) * common (r .y1) (r .y2) (b .y1) (b .y2)
 
 -- the unit squares that each rectangle shares with a box, added up
-unfoldable pub overlapSum : List Rect → Rect → ℕ
-overlapSum [] b = 0
-overlapSum (r ∷ rs) b = overlap r b + overlapSum rs b
+abbrev pub overlapSum : List Rect → Rect → ℕ
+overlapSum rs b = rectSum rs (λ r. overlap r b)

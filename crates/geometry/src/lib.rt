@@ -1,10 +1,12 @@
-// Rectangles, the covered area of a box, and what a search for an extreme finds.
+// Rectangles, the covered area of a box and the shapes under it, and what a
+// search for an extreme finds.
 
-ghost use Prim.Native.Nat.{_+_, _*_, _≤_, _<_, min, max};
+ghost use Prim.Native.Nat.{_+_, _*_, _^_, _≤_, _<_, min, max};
 ghost use mathlib.Core.Path.{_≡_};
 ghost use lib.ListN.{length, getD};
 ghost use Rattle.geometry.specs.Sizes.{SmallList};
-ghost use Rattle.geometry.specs.Layout.{rectsOf, coveredArea, sharesSquare, Drawn};
+ghost use Rattle.geometry.specs.Count.{one-if};
+ghost use Rattle.geometry.specs.Layout.{rectsOf, sharesSquare, coverOf, windowBox, Drawn};
 ghost use Rattle.geometry.specs.Overlaps.{rectAt, common, overlap};
 ghost use Rattle.geometry.specs.Strips.{part, rowsPart, columnsPart, stripOf, narrowed, stripSum, StripSmall};
 ghost use Rattle.buffers.specs.Written.{Written, Front};
@@ -22,6 +24,13 @@ pub struct Rect {
     pub y1: u64,
     pub x2: u64,
     pub y2: u64,
+}
+
+// What is drawn in a box: the covered area, and how many rectangles share a unit
+// square with it.
+pub struct Cover {
+    pub area: u64,
+    pub shapes: u64,
 }
 
 // A window, named by its lower left corner, with its area.
@@ -69,18 +78,41 @@ fn overlap_at(rects: &[u64], i: usize, b: Rect) -> u64
     across * down
 }
 
-// The covered area of a box.
-pub fn area(rects: &[u64], b: Rect) -> u64
-    requires { ⌜ Drawn (now rects) ⌝ }
-    ensures { λ r. ⌜ r ≡ coveredArea (rectsOf (now (rects .entry))) b ⌝ }
+// What a test adds to a count.
+fn one_if(test: bool) -> u64
+    ensures { λ r. ⌜ r ≡ one-if test ⌝ }
 {
-    let mut total: u64 = 0;
+    if test { 1 } else { 0 }
+}
+
+// The window of side w at (x, y).
+pub fn window_box(w: u64, x: u64, y: u64) -> Rect
+    requires { ⌜ (x + w < 2 ^ 64) × (y + w < 2 ^ 64) ⌝ }
+    ensures { λ b. ⌜ b ≡ windowBox w x y ⌝ }
+{
+    Rect {
+        x1: x,
+        y1: y,
+        x2: x + w,
+        y2: y + w,
+    }
+}
+
+// The area of a box and the shapes under it.
+pub fn cover_of(rects: &[u64], b: Rect) -> Cover
+    requires { ⌜ Drawn (now rects) ⌝ }
+    ensures { λ r. ⌜ r ≡ coverOf (rectsOf (now (rects .entry))) b ⌝ }
+{
+    let mut area: u64 = 0;
+    let mut shapes: u64 = 0;
     let mut i: usize = 0;
     while i + 3 < rects.len() {
-        total += overlap_at(rects, i, b);
+        let shared = overlap_at(rects, i, b);
+        area += shared;
+        shapes += one_if(0 < shared);
         i += 4;
     }
-    total
+    Cover { area, shapes }
 }
 
 // Whether a box shares a unit square with a drawn rectangle. Shared edges and
@@ -89,7 +121,8 @@ pub fn shares_square(rects: &[u64], b: Rect) -> bool
     requires { ⌜ Drawn (now rects) ⌝ }
     ensures { λ r. ⌜ r ≡ sharesSquare (rectsOf (now (rects .entry))) b ⌝ }
 {
-    0 < area(rects, b)
+    let cover = cover_of(rects, b);
+    0 < cover.area
 }
 
 // Writes a rectangle's part of a strip at a place, if it has any.

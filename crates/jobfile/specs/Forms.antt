@@ -6,6 +6,7 @@ use mathlib.Core.Option.{Option, none, some}
 use lib.Dec.{leb, eqb}
 use lib.ListN.{getD}
 use Rattle.geometry.specs.declared.Rect.{Rect}
+use Rattle.fill.specs.declared.Plan.{Plan}
 use Rattle.spelling.specs.Text.{bytes}
 use Rattle.spelling.specs.Pattern.{readAs}
 use Rattle.jobfile.specs.declared.Head.{Head}
@@ -57,6 +58,11 @@ tileSide h = h .window / h .cut
 
 abbrev pub tilesAcross : Head → ℕ
 tilesAcross h = h .size / tileSide h
+
+-- what a job's fill is judged by
+abbrev pub planOf : Head → Plan
+planOf h =
+    record { across = tilesAcross h; cut = h .cut; side = tileSide h; window = h .window; lower = h .lower; upper = h .upper }
 
 -- the head agrees: W ≤ N, R divides W, W/R divides N, N/(W/R) is at most the tiles across a layout, and L ≤ U
 abbrev pub agrees : Limits → Head → Bool

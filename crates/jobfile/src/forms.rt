@@ -8,6 +8,7 @@ use crate::limits::MOST_DIGITS;
 use crate::limits::MOST_LEVELS;
 use crate::limits::MOST_SIDE;
 use crate::limits::MOST_TILES;
+use fill::Plan;
 use geometry::Rect;
 use spelling::MOST_VALUES;
 use spelling::read_as;
@@ -16,7 +17,7 @@ ghost use mathlib.Core.Bool.{_&&_};
 ghost use Prim.Native.Nat.{_*_, _/_, _%_, _≤_};
 ghost use lib.Dec.{leb, eqb};
 ghost use Rattle.jobfile.specs.Limits.{unitLimits};
-ghost use Rattle.jobfile.specs.Forms.{headingForm, shapeForm, fillForm, formOf, inSpan, headInRange, rectInRange, fillInRange, inRange, tileSide, tilesAcross, agrees};
+ghost use Rattle.jobfile.specs.Forms.{headingForm, shapeForm, fillForm, formOf, inSpan, headInRange, rectInRange, fillInRange, inRange, tileSide, tilesAcross, planOf, agrees};
 
 // The forms of a spelling's numbers.
 fn heading_form(v: [u64; MOST_VALUES]) -> Form
@@ -164,17 +165,31 @@ fn is_multiple(a: u64, b: u64) -> bool
 }
 
 // The tile side W/R.
-pub fn tile_side(h: Head) -> u64
+pub(crate) fn tile_side(h: Head) -> u64
     ensures { λ r. ⌜ r ≡ tileSide h ⌝ }
 {
     quotient(h.window, h.cut)
 }
 
 // N/(W/R), the number of tiles across the layout.
-pub fn tiles_across(h: Head) -> u64
+pub(crate) fn tiles_across(h: Head) -> u64
     ensures { λ r. ⌜ r ≡ tilesAcross h ⌝ }
 {
     quotient(h.size, tile_side(h))
+}
+
+// What a job's fill is judged by.
+pub fn plan_of(h: Head) -> Plan
+    ensures { λ r. ⌜ r ≡ planOf h ⌝ }
+{
+    Plan {
+        across: tiles_across(h),
+        cut: h.cut,
+        side: tile_side(h),
+        window: h.window,
+        lower: h.lower,
+        upper: h.upper,
+    }
 }
 
 // The number of tiles of a layout.

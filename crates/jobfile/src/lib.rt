@@ -5,9 +5,8 @@ mod held;
 mod limits;
 mod reader;
 
+pub use forms::plan_of;
 pub use forms::tile_count;
-pub use forms::tile_side;
-pub use forms::tiles_across;
 use geometry::Rect;
 use limits::AMOUNTS_ROOM;
 use limits::MOST_BYTES;

@@ -7,12 +7,13 @@ use Rattle.geometry.specs.declared.Sense.{Sense}
 use Rattle.geometry.specs.declared.Sense.the-variants.{Greatest, Least}
 use Rattle.geometry.specs.Layout.{rectsOf}
 use Rattle.extremes.specs.Exact.{extreme, exactRun, extremeIn}
+use Rattle.fill.specs.declared.Plan.{Plan}
 use Rattle.fill.specs.declared.Verdict.{Verdict}
 use Rattle.fill.specs.Judge.{verdictOf}
 use Rattle.jobfile.specs.declared.Head.{Head}
 use Rattle.jobfile.specs.declared.Job.{Job}
 use Rattle.jobfile.specs.Limits.{unitLimits}
-use Rattle.jobfile.specs.Forms.{tileSide, tilesAcross}
+use Rattle.jobfile.specs.Forms.{planOf}
 use Rattle.jobfile.specs.Faults.{Standing}
 use Rattle.jobfile.specs.File.{Outcome, refused, accepted, outcomeOf}
 use Rattle.jobfile.specs.Held.{asJob}
@@ -20,7 +21,6 @@ use Rattle.unit.specs.declared.run.Answer.{Answer}
 use Rattle.unit.specs.Answering.{quickOf, answerOf, quickIn}
 use Rattle.unit.specs.Ready.{standingOf, jobStanding}
 use Rattle.unit.proofs.Accepting.{accepted-standing}
-use Rattle.unit.proofs.Running.{planAt}
 use Rattle.phases.specs.Phase.{phaseNumber, phaseOf}
 
 pub exact-in : (s : Sense) (rs : List Rect) (n w : ℕ) → extremeIn s (exactRun rs n w) ≡ extreme s rs n w
@@ -32,10 +32,10 @@ unfolding answerOf
 quick-in Greatest st = refl
 quick-in Least st = refl
 
-pub verdict-at : (h : Head) (rects amounts : List ℕ) (tiles side : ℕ) {v : Verdict} → tiles ≡ tilesAcross h → side ≡ tileSide h →
-    v ≡ verdictOf (rectsOf rects) amounts (planAt h tiles side) → v ≡ answerOf (standingOf h rects amounts) .verdict
+pub verdict-at : (h : Head) (rects amounts : List ℕ) {p : Plan} {v : Verdict} → p ≡ planOf h → v ≡ verdictOf (rectsOf rects) amounts p →
+    v ≡ answerOf (standingOf h rects amounts) .verdict
 unfolding answerOf
-verdict-at h rects amounts tiles side et es e = rw (et, es) at e
+verdict-at h rects amounts ep ev = rw ep at ev
 
 pub other-phase : (k : ℕ) (a : Answer) → (k ≡ 1 → ⊥) → (k ≡ 2 → ⊥) → (k ≡ 3 → ⊥) → (k ≡ 4 → ⊥) → 0 ≡ phaseNumber k a
 other-phase zero a p q r s = refl

@@ -1,7 +1,6 @@
 // The phases of a job by themselves, for the benchmark. Each gives one number of
 // the answer, so that no phase can be left out.
 use extremes::Extremes;
-use fill::Plan;
 use fill::Verdict;
 use geometry::Sense;
 use geometry::Spot;
@@ -68,17 +67,7 @@ fn judged_number(head: Head, rects: &[u64], amounts: &[u64]) -> u64
     requires { ⌜ Ready head (now rects) (now amounts) ⌝ }
     ensures { λ r. ⌜ r ≡ verdictNumber (answerOf (standingOf head (now (rects .entry)) (now (amounts .entry))) .verdict) ⌝ }
 {
-    let side = jobfile::tile_side(head);
-    let across = jobfile::tiles_across(head);
-    let plan = Plan {
-        across,
-        cut: head.cut,
-        side,
-        window: head.window,
-        lower: head.lower,
-        upper: head.upper,
-    };
-    number_of(fill::judge(rects, amounts, plan))
+    number_of(fill::judge(rects, amounts, jobfile::plan_of(head)))
 }
 
 fn phase_number(phase: u64, head: Head, rects: &[u64], amounts: &[u64]) -> u64

@@ -1,6 +1,6 @@
 -- Demand 3: the answer to every job that may run keeps its promises.
 use Prim.Native.Nat.{ℕ, _+_, _-_, _*_, _≤_, _<_}
-use mathlib.Core.Path.{_≡_, refl, ap}
+use mathlib.Core.Path.{_≡_, refl, sym, ap, _∙_}
 use mathlib.Core.Bool.{Bool}
 use mathlib.Core.List.{List, [], _∷_}
 use native.Mathlib.Nat.{mul-le-mul-right}
@@ -10,6 +10,8 @@ use Rattle.geometry.specs.declared.Rect.{Rect}
 use Rattle.geometry.specs.declared.Spot.{Spot}
 use Rattle.geometry.specs.declared.Sense.{Sense}
 use Rattle.geometry.specs.declared.Sense.the-variants.{Greatest, Least}
+use Rattle.geometry.specs.Layout.{windowBox}
+use Rattle.geometry.proofs.Sharing.{no-shapes→no-area, no-area→no-shapes}
 use Rattle.geometry.proofs.Extremes.{not-better}
 use Rattle.extremes.specs.Exact.{extreme, extremeIn}
 use Rattle.extremes.proofs.Promises.{extreme-over-all}
@@ -34,10 +36,10 @@ use Rattle.fill.specs.Placement.{Placement}
 use Rattle.fill.proofs.Promise.{Dissected, safe-keeps, broken-breaks}
 use Rattle.fill.proofs.Placing.{placement}
 use Rattle.jobfile.specs.declared.Head.{Head}
-use Rattle.jobfile.specs.Forms.{tileSide, tilesAcross}
+use Rattle.jobfile.specs.Forms.{tileSide, tilesAcross, planOf}
 use Rattle.jobfile.specs.Faults.{Standing}
-use Rattle.unit.specs.Answering.{planOf, quickOf, answerOf, quickIn}
-use Rattle.unit.specs.Promise.{distance, StartOf, EndsWith, ExactPromise, levelIn, BracketPromise, LevelPromise, QuickPromise, FillPromise, Promises}
+use Rattle.unit.specs.Answering.{quickOf, answerOf, quickIn}
+use Rattle.unit.specs.Promise.{shapesAt, RealWindow, distance, StartOf, EndsWith, ExactPromise, levelIn, BracketPromise, LevelPromise, QuickPromise, FillPromise, CountPromise, CountsPromise, Promises}
 
 -- what an accepted head and its amounts say: tiles fit the window and the layout, and no amount exceeds its tile's fillable area
 pub record Runs (st : Standing) : Type 0 where
@@ -190,6 +192,17 @@ quick-kept s st r =
     other : (j : ℕ) → EndsWith q j → q .end ≡ Exact → ⊥
     other j k e = k .not-exact (ap endNumber e)
 
+-- ---- the shapes under a named window
+
+count-kept : (st : Standing) (p : Spot) → RealWindow st p → CountPromise st p (shapesAt st (p .x) (p .y))
+count-kept st p r =
+    let b = windowBox (st .head .window) (p .x) (p .y) in
+    record {
+      shapes = refl;
+      none-counted = λ e. r .area ∙ no-shapes→no-area (st .shapes) b e;
+      none-covered = λ e. no-area→no-shapes (st .shapes) b (sym (r .area) ∙ e);
+    }
+
 -- ---- the fill
 
 dissected : (st : Standing) → Runs st → Dissected (planOf (st .head)) (st .head .size)
@@ -243,7 +256,7 @@ fill-kept st k =
 
 pub promises-kept : (st : Standing) → Runs st → Promises st (answerOf st)
 unfolding answerOf
-promises-kept st k = record { exact = exact; quick = quick; fill = fill-kept st k }
+promises-kept st k = record { exact = exact; quick = quick; counts = counts; fill = fill-kept st k }
   where
     exact : (s : Sense) → ExactPromise s st (extremeIn s (answerOf st .exact))
     exact Greatest = exact-kept Greatest st
@@ -252,3 +265,12 @@ promises-kept st k = record { exact = exact; quick = quick; fill = fill-kept st 
     quick : (s : Sense) → QuickPromise s st (quickIn s (answerOf st)) (extremeIn s (answerOf st .exact) .area)
     quick Greatest = quick-kept Greatest st k
     quick Least = quick-kept Least st k
+
+    counts : CountsPromise st (answerOf st)
+    counts =
+        record {
+          max = count-kept st _ (exact Greatest .window);
+          min = count-kept st _ (exact Least .window);
+          floor = count-kept st _ (quick Greatest .bracket .named);
+          high = count-kept st _ (quick Least .bracket .named);
+        }

@@ -10,24 +10,27 @@ use Rattle.geometry.specs.declared.Sense.the-variants.{Greatest, Least}
 use Rattle.geometry.specs.Sizes.{largest}
 use Rattle.geometry.specs.Layout.{rectsOf}
 use Rattle.extremes.specs.declared.Extremes.{Extremes}
-use Rattle.extremes.specs.Exact.{extreme, exactRun}
+use Rattle.extremes.specs.Exact.{Position, extreme, exactRun}
+use Rattle.extremes.proofs.Promises.{extreme-over-all}
 use Rattle.zoom.specs.declared.Quick.{Quick}
 use Rattle.zoom.specs.Run.{density}
 use Rattle.zoom.specs.Sizes.{Runnable, Measurable}
-use Rattle.zoom.proofs.Bracket.{quick-run-small}
+use Rattle.zoom.proofs.Bracket.{quick-run-promises, quick-run-small}
 use Rattle.fill.specs.declared.Plan.{Plan}
 use Rattle.fill.specs.declared.Verdict.{Verdict}
 use Rattle.fill.specs.Judge.{verdictOf}
 use Rattle.fill.specs.Sizes.{Planned}
 use Rattle.jobfile.specs.declared.Head.{Head}
-use Rattle.jobfile.specs.Forms.{tileSide, tilesAcross}
+use Rattle.jobfile.specs.Forms.{tilesAcross, planOf}
+use Rattle.unit.specs.declared.run.Counts.{Counts}
 use Rattle.unit.specs.declared.run.Answer.{Answer}
-use Rattle.unit.specs.Answering.{quickOf, answerOf}
-use Rattle.unit.specs.Ready.{Ready, standingOf}
+use Rattle.unit.specs.Answering.{quickOf, countsOf, answerOf}
+use Rattle.unit.specs.Ready.{SmallSpot, SmallSpots, Ready, standingOf}
 
--- the plan, at the numbers of tiles and the side that the code computed
-abbrev pub planAt : Head → (tiles side : ℕ) → Plan
-planAt h tiles side = record { across = tiles; cut = h .cut; side = side; window = h .window; lower = h .lower; upper = h .upper }
+-- counts by their four numbers
+pub same-counts : {a b c d max min floor high : ℕ} → a ≡ max → b ≡ min → c ≡ floor → d ≡ high →
+    _≡_ {A = Counts} (record { max = a; min = b; floor = c; high = d }) (record { max = max; min = min; floor = floor; high = high })
+same-counts p q r s = λ i. record { max = p i; min = q i; floor = r i; high = s i }
 
 module _ (h : Head) (rects amounts : List ℕ) where
   abbrev quick : Sense → Quick
@@ -58,19 +61,42 @@ module _ (h : Head) (rects amounts : List ℕ) where
         ceiling-small = subst⁻¹ (λ (p : Quick). p .last .limit ≤ largest) e (s .limit);
       }
 
-  pub answer-is : (x : Extremes) (q l : Quick) (d : ℕ) (v : Verdict) (tiles side : ℕ) → x ≡ exactRun (rectsOf rects) (h .size) (h .window) →
-      q ≡ quick Greatest → l ≡ quick Least → d ≡ density (h .window) (q .last .named .area) (q .last .limit) →
-      v ≡ verdictOf (rectsOf rects) amounts (planAt h tiles side) → tiles ≡ tilesAcross h → side ≡ tileSide h →
-      _≡_ {A = Answer} (record { exact = x; greatest = q; least = l; density = d; verdict = v }) (answerOf (standingOf h rects amounts))
+  -- a window at a position ends in the layout
+  small-spot : Ready h rects amounts → (p : Spot) → Position (h .size) (h .window) (p .x) (p .y) → SmallSpot (h .window) p
+  small-spot r p at =
+      record {
+        right = omega (arith, at .across, r .window-fits, r .small);
+        high = omega (arith, at .down, r .window-fits, r .small);
+      }
+
+  -- so do the windows that the exact run and the quick run of a sense name
+  exact-window-small : (s : Sense) → Ready h rects amounts → SmallSpot (h .window) (extreme s (rectsOf rects) (h .size) (h .window))
+  exact-window-small s r = small-spot r _ (extreme-over-all s (rectsOf rects) (h .size) (h .window) .position)
+
+  quick-window-small : (s : Sense) → Ready h rects amounts → SmallSpot (h .window) (quick s .last .named)
+  quick-window-small s r =
+      let p = quick-run-promises s (rectsOf rects) (h .size) (h .window) (h .accuracy) (h .levels) (r .some-window) (r .window-fits) .ends .named in
+      small-spot r _ (record { across = p .across; down = p .down })
+
+  -- what counting the shapes under them asks
+  pub spots-small : Ready h rects amounts → (x : Extremes) (q l : Quick) → x ≡ exactRun (rectsOf rects) (h .size) (h .window) → q ≡ quick Greatest →
+      l ≡ quick Least → SmallSpots (h .window) x q l
+  spots-small r x q l ex eq el =
+      rw (ex, eq, el)
+      (record { max = exact-window-small Greatest r; min = exact-window-small Least r; floor = quick-window-small Greatest r; high = quick-window-small Least r })
+
+  pub answer-is : (x : Extremes) (q l : Quick) (k : Counts) (d : ℕ) (p : Plan) (v : Verdict) → x ≡ exactRun (rectsOf rects) (h .size) (h .window) →
+      q ≡ quick Greatest → l ≡ quick Least → k ≡ countsOf (rectsOf rects) (h .window) x q l → d ≡ density (h .window) (q .last .named .area) (q .last .limit) →
+      p ≡ planOf h → v ≡ verdictOf (rectsOf rects) amounts p →
+      _≡_ {A = Answer} (record { exact = x; greatest = q; least = l; counts = k; density = d; verdict = v }) (answerOf (standingOf h rects amounts))
   unfolding answerOf
-  answer-is x q l d v tiles side ex eq el ed ev et es = rw (ed, ex, eq, el, ev, et, es)
+  answer-is x q l k d p v ex eq el ek ed ep ev = rw (ev, ep, ek, ed, ex, eq, el)
 
   -- what judging the fill asks
-  pub planned-at : Ready h rects amounts → (tiles side : ℕ) → tiles ≡ tilesAcross h → side ≡ tileSide h →
-      Planned rects amounts (planAt h tiles side)
-  planned-at r tiles side et es = rw (et, es) (r .planned)
+  pub planned : Ready h rects amounts → {p : Plan} → p ≡ planOf h → Planned rects amounts p
+  planned r e = rw e (r .planned)
 
-  -- the same at a number of amounts that the code computed
+  -- a job at a number of amounts that the code computed
   pub ready-at : (k : ℕ) → k ≡ tilesAcross h * tilesAcross h → Ready h rects (take (tilesAcross h * tilesAcross h) amounts) → Ready h rects (take k amounts)
   ready-at k e r = rw e r
 

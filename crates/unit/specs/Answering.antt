@@ -1,17 +1,18 @@
--- Document 01, "The program", with the line of document 02's request 1: what an accepted job is answered, and the five lines that say it.
+-- Document 01, "The program", with the line of document 02's request 1 and the counts of its request 2: what an accepted job is answered, and the
+-- five lines that say it.
 use Prim.Native.Nat.{ℕ}
 use mathlib.Core.List.{List, [], _∷_, _++_}
+use Rattle.geometry.specs.declared.Rect.{Rect}
 use Rattle.geometry.specs.declared.Sense.{Sense}
 use Rattle.geometry.specs.declared.Sense.the-variants.{Greatest, Least}
 use Rattle.geometry.specs.Extreme.{spotNumbers}
 use Rattle.extremes.specs.declared.Extremes.{Extremes}
-use Rattle.extremes.specs.Exact.{exactRun}
+use Rattle.extremes.specs.Exact.{windowShapes, exactRun}
 use Rattle.zoom.specs.declared.End.{End}
 use Rattle.zoom.specs.declared.End.the-variants.{Met, Stopped, Exact}
 use Rattle.zoom.specs.declared.Level.{Level}
 use Rattle.zoom.specs.declared.Quick.{Quick}
 use Rattle.zoom.specs.Run.{quickRun, density}
-use Rattle.fill.specs.declared.Plan.{Plan}
 use Rattle.fill.specs.declared.Bound.{Bound}
 use Rattle.fill.specs.declared.Bound.the-variants.{Over, Under}
 use Rattle.fill.specs.declared.Verdict.{Verdict}
@@ -19,29 +20,38 @@ use Rattle.fill.specs.declared.Verdict.the-variants.{Safe, Broken, Undecided}
 use Rattle.fill.specs.Judge.{verdictOf}
 use Rattle.spelling.specs.Text.{bytes}
 use Rattle.spelling.specs.Pattern.{spell}
-use Rattle.jobfile.specs.declared.Head.{Head}
-use Rattle.jobfile.specs.Forms.{tileSide, tilesAcross}
+use Rattle.jobfile.specs.Forms.{planOf}
 use Rattle.jobfile.specs.Faults.{Standing}
+use Rattle.unit.specs.declared.run.Counts.{Counts}
 use Rattle.unit.specs.declared.run.Answer.{Answer}
-
--- what a job's fill is judged by
-abbrev pub planOf : Head → Plan
-planOf h =
-    record { across = tilesAcross h; cut = h .cut; side = tileSide h; window = h .window; lower = h .lower; upper = h .upper }
 
 -- the quick run for an extreme; both have the head's accuracy and levels, and each ends by its own test
 abbrev pub quickOf : Sense → Standing → Quick
 quickOf s st = let h = st .head in quickRun s (st .shapes) (h .size) (h .window) (h .accuracy) (h .levels)
 
--- the exact run, the quick runs for the greatest and for the least window, the density of the first one's bracket and the verdict on the fill
+-- the shapes under each window that an answer names; after floor and high it may be an earlier level's
+abbrev pub countsOf : List Rect → (w : ℕ) → Extremes → (greatest least : Quick) → Counts
+countsOf rs w e q l =
+    record {
+      max = windowShapes rs w (e .greatest .x) (e .greatest .y);
+      min = windowShapes rs w (e .least .x) (e .least .y);
+      floor = windowShapes rs w (q .last .named .x) (q .last .named .y);
+      high = windowShapes rs w (l .last .named .x) (l .last .named .y);
+    }
+
+-- the exact run, the quick runs for the greatest and for the least window, the shapes under the windows that these name, the density of the first
+-- quick run's bracket and the verdict on the fill
 unfoldable pub answerOf : Standing → Answer
 answerOf st =
     let h = st .head in
+    let e = exactRun (st .shapes) (h .size) (h .window) in
     let q = quickOf Greatest st in
+    let l = quickOf Least st in
     record {
-      exact = exactRun (st .shapes) (h .size) (h .window);
+      exact = e;
       greatest = q;
-      least = quickOf Least st;
+      least = l;
+      counts = countsOf (st .shapes) (h .window) e q l;
       density = density (h .window) (q .last .named .area) (q .last .limit);
       verdict = verdictOf (st .shapes) (st .amounts) (planOf h);
     }
@@ -51,9 +61,10 @@ abbrev pub quickIn : Sense → Answer → Quick
 quickIn Greatest a = a .greatest
 quickIn Least a = a .least
 
--- after max, min, floor and high stand area, x, y
-abbrev pub exactLine : Extremes → List ℕ
-exactLine e = spell (bytes "(exact (max # # #) (min # # #))\n") (spotNumbers (e .greatest) (spotNumbers (e .least) []))
+-- after max, min, floor and high stand area, x, y and the shapes under the window
+abbrev pub exactLine : Extremes → Counts → List ℕ
+exactLine e counts =
+    spell (bytes "(exact (max # # # #) (min # # # #))\n") (spotNumbers (e .greatest) (counts .max ∷ spotNumbers (e .least) (counts .min ∷ [])))
 
 -- the papers' word for the quick run of each extreme, and for each end
 abbrev pub zoomWord : Sense → List ℕ
@@ -65,15 +76,15 @@ endWord Met = bytes "met"
 endWord Stopped = bytes "stopped"
 endWord Exact = bytes "exact"
 
--- the bracket of the last level, its lower end first
-abbrev pub levelPart : Sense → (done : ℕ) → Level → List ℕ
-levelPart Greatest done v =
-    spell (bytes " (levels #) (floor # # #) (ceiling #) (kept #))\n") (done ∷ spotNumbers (v .named) (v .limit ∷ v .kept ∷ []))
-levelPart Least done v =
-    spell (bytes " (levels #) (low #) (high # # #) (kept #))\n") (done ∷ v .limit ∷ spotNumbers (v .named) (v .kept ∷ []))
+-- the bracket of the last level, its lower end first, with the shapes under the window named
+abbrev pub levelPart : Sense → (done : ℕ) → Level → (shapes : ℕ) → List ℕ
+levelPart Greatest done v shapes =
+    spell (bytes " (levels #) (floor # # # #) (ceiling #) (kept #))\n") (done ∷ spotNumbers (v .named) (shapes ∷ v .limit ∷ v .kept ∷ []))
+levelPart Least done v shapes =
+    spell (bytes " (levels #) (low #) (high # # # #) (kept #))\n") (done ∷ v .limit ∷ spotNumbers (v .named) (shapes ∷ v .kept ∷ []))
 
-abbrev pub zoomLine : Sense → Quick → List ℕ
-zoomLine s q = zoomWord s ++ endWord (q .end) ++ levelPart s (q .done) (q .last)
+abbrev pub zoomLine : Sense → Quick → (shapes : ℕ) → List ℕ
+zoomLine s q shapes = zoomWord s ++ endWord (q .end) ++ levelPart s (q .done) (q .last) shapes
 
 abbrev pub densityLine : ℕ → List ℕ
 densityLine r = spell (bytes "(density #)\n") (r ∷ [])
@@ -94,4 +105,8 @@ verdictLine (Undecided b i j) = bytes "(fill undecided" ++ failingStart b i j
 -- the five lines
 unfoldable pub textOf : Answer → List ℕ
 textOf a =
-    exactLine (a .exact) ++ zoomLine Greatest (a .greatest) ++ zoomLine Least (a .least) ++ densityLine (a .density) ++ verdictLine (a .verdict)
+    exactLine (a .exact) (a .counts)
+    ++ zoomLine Greatest (a .greatest) (a .counts .floor)
+    ++ zoomLine Least (a .least) (a .counts .high)
+    ++ densityLine (a .density)
+    ++ verdictLine (a .verdict)

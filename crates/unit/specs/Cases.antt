@@ -1,9 +1,10 @@
--- The cases: document 01's rows A1 to Z and our own for the least window, each stated beside its definitions, and files by their bytes with what
--- is printed. proofs/Cases.antt shows that all of them follow.
+-- The cases: document 01's rows A1 to Z and our own for the least window and for the shapes under a box, each stated beside its definitions, and
+-- files by their bytes with what is printed. proofs/Cases.antt shows that all of them follow.
 use Prim.Native.Nat.{ℕ}
 use Prim.Native.String.{String}
 use mathlib.Core.List.{List, [], _∷_, _++_}
 use Rattle.geometry.specs.Row.{Row, row}
+use Rattle.geometry.specs.Cases.{coverRows}
 use Rattle.extremes.specs.Cases.{exactRows}
 use Rattle.zoom.specs.Cases.{zoomRows}
 use Rattle.fill.specs.Cases.{fillRows}
@@ -12,7 +13,7 @@ use Rattle.unit.specs.Whole.{printedFor}
 
 -- the rows of each phase
 abbrev pub phaseRows : List Row
-phaseRows = exactRows ++ zoomRows ++ fillRows
+phaseRows = coverRows ++ exactRows ++ zoomRows ++ fillRows
 
 -- an answer by its lines; 10 is the line feed
 unfoldable pub printedLines : List String → List ℕ
@@ -29,9 +30,9 @@ byteRows =
     row "job A"
     (prints "(job (size 8) (window 4) (cut 2) (gap 1) (bounds 0 5000) (zoom 0 6))\n(rect 3 3 5 5)\n(fill 0 0 2)\n(end)\n")
     (printedLines
-    ("(exact (max 4 1 1) (min 1 0 0))"
-    ∷ "(zoom met (levels 2) (floor 4 2 2) (ceiling 4) (kept 0))"
-    ∷ "(zoommin exact (levels 4) (low 1) (high 1 0 0) (kept 0))"
+    ("(exact (max 4 1 1 1) (min 1 0 0 1))"
+    ∷ "(zoom met (levels 2) (floor 4 2 2 1) (ceiling 4) (kept 0))"
+    ∷ "(zoommin exact (levels 4) (low 1) (high 1 0 0 1) (kept 0))"
     ∷ "(density 2500)"
     ∷ "(fill safe)"
     ∷ []))
@@ -71,63 +72,82 @@ byteRows =
     ∷ row "stopped at one level"
     (prints "(job (size 8) (window 4) (cut 2) (gap 1) (bounds 0 5000) (zoom 0 1))\n(rect 3 3 5 5)\n(end)\n")
     (printedLines
-    ("(exact (max 4 1 1) (min 1 0 0))"
-    ∷ "(zoom stopped (levels 1) (floor 1 0 0) (ceiling 4) (kept 3))"
-    ∷ "(zoommin stopped (levels 1) (low 0) (high 1 0 0) (kept 4))"
+    ("(exact (max 4 1 1 1) (min 1 0 0 1))"
+    ∷ "(zoom stopped (levels 1) (floor 1 0 0 1) (ceiling 4) (kept 3))"
+    ∷ "(zoommin stopped (levels 1) (low 0) (high 1 0 0 1) (kept 4))"
     ∷ "(density 1562)"
     ∷ "(fill safe)"
     ∷ []))
     ∷ row "exact after the last level"
     (prints "(job (size 5) (window 3) (cut 3) (gap 1) (bounds 0 10000) (zoom 0 6))\n(rect 2 2 4 4)\n(end)\n")
     (printedLines
-    ("(exact (max 4 1 1) (min 1 0 0))"
-    ∷ "(zoom exact (levels 2) (floor 4 1 1) (ceiling 4) (kept 0))"
-    ∷ "(zoommin exact (levels 2) (low 1) (high 1 0 0) (kept 0))"
+    ("(exact (max 4 1 1 1) (min 1 0 0 1))"
+    ∷ "(zoom exact (levels 2) (floor 4 1 1 1) (ceiling 4) (kept 0))"
+    ∷ "(zoommin exact (levels 2) (low 1) (high 1 0 0 1) (kept 0))"
     ∷ "(density 4444)"
     ∷ "(fill safe)"
     ∷ []))
     ∷ row "stopped before the exact search"
     (prints "(job (size 5) (window 3) (cut 3) (gap 1) (bounds 0 10000) (zoom 0 1))\n(rect 2 2 4 4)\n(end)\n")
     (printedLines
-    ("(exact (max 4 1 1) (min 1 0 0))"
-    ∷ "(zoom stopped (levels 1) (floor 1 0 0) (ceiling 4) (kept 1))"
-    ∷ "(zoommin stopped (levels 1) (low 0) (high 1 0 0) (kept 1))"
+    ("(exact (max 4 1 1 1) (min 1 0 0 1))"
+    ∷ "(zoom stopped (levels 1) (floor 1 0 0 1) (ceiling 4) (kept 1))"
+    ∷ "(zoommin stopped (levels 1) (low 0) (high 1 0 0 1) (kept 1))"
     ∷ "(density 2777)"
     ∷ "(fill safe)"
     ∷ []))
     ∷ row "the least met above 0, a level later than the greatest"
     (prints "(job (size 6) (window 4) (cut 2) (gap 1) (bounds 0 10000) (zoom 250 3))\n(rect 0 3 5 6)\n(end)\n")
     (printedLines
-    ("(exact (max 12 0 2) (min 3 2 0))"
-    ∷ "(zoom met (levels 2) (floor 12 0 2) (ceiling 15) (kept 2))"
-    ∷ "(zoommin met (levels 3) (low 2) (high 3 2 0) (kept 1))"
+    ("(exact (max 12 0 2 1) (min 3 2 0 1))"
+    ∷ "(zoom met (levels 2) (floor 12 0 2 1) (ceiling 15) (kept 2))"
+    ∷ "(zoommin met (levels 3) (low 2) (high 3 2 0 1) (kept 1))"
     ∷ "(density 8437)"
     ∷ "(fill safe)"
     ∷ []))
     ∷ row "the least stopped, at one thousandth less"
     (prints "(job (size 6) (window 4) (cut 2) (gap 1) (bounds 0 10000) (zoom 249 3))\n(rect 0 3 5 6)\n(end)\n")
     (printedLines
-    ("(exact (max 12 0 2) (min 3 2 0))"
-    ∷ "(zoom met (levels 2) (floor 12 0 2) (ceiling 15) (kept 2))"
-    ∷ "(zoommin stopped (levels 3) (low 2) (high 3 2 0) (kept 1))"
+    ("(exact (max 12 0 2 1) (min 3 2 0 1))"
+    ∷ "(zoom met (levels 2) (floor 12 0 2 1) (ceiling 15) (kept 2))"
+    ∷ "(zoommin stopped (levels 3) (low 2) (high 3 2 0 1) (kept 1))"
     ∷ "(density 8437)"
     ∷ "(fill safe)"
+    ∷ []))
+    ∷ row "four windows, each with its own count; floor and high are of an earlier level and have the areas of max and min"
+    (prints
+    "(job (size 8) (window 4) (cut 2) (gap 1) (bounds 0 10000) (zoom 0 6))\n(rect 3 6 7 8)\n(rect 7 2 8 8)\n(rect 4 2 7 5)\n(rect 3 0 4 3)\n(rect 3 5 6 6)\n(end)\n")
+    (printedLines
+    ("(exact (max 15 4 2 3) (min 2 0 1 1))"
+    ∷ "(zoom exact (levels 4) (floor 15 4 4 4) (ceiling 15) (kept 0))"
+    ∷ "(zoommin exact (levels 4) (low 2) (high 2 0 2 2) (kept 0))"
+    ∷ "(density 9375)"
+    ∷ "(fill undecided over 1 0)"
+    ∷ []))
+    ∷ row "a shape around the greatest window"
+    (prints "(job (size 8) (window 4) (cut 2) (gap 1) (bounds 0 10000) (zoom 0 6))\n(rect 1 1 7 7)\n(end)\n")
+    (printedLines
+    ("(exact (max 16 1 1 1) (min 9 0 0 1))"
+    ∷ "(zoom exact (levels 4) (floor 16 2 2 1) (ceiling 16) (kept 0))"
+    ∷ "(zoommin exact (levels 4) (low 9) (high 9 0 0 1) (kept 0))"
+    ∷ "(density 10000)"
+    ∷ "(fill undecided over 0 0)"
     ∷ []))
     ∷ row "broken under"
     (prints "(job (size 2) (window 1) (cut 1) (gap 0) (bounds 1 10000) (zoom 0 6))\n(fill 0 0 1)\n(end)\n")
     (printedLines
-    ("(exact (max 0 0 0) (min 0 0 0))"
-    ∷ "(zoom met (levels 1) (floor 0 0 0) (ceiling 0) (kept 0))"
-    ∷ "(zoommin met (levels 1) (low 0) (high 0 0 0) (kept 0))"
+    ("(exact (max 0 0 0 0) (min 0 0 0 0))"
+    ∷ "(zoom met (levels 1) (floor 0 0 0 0) (ceiling 0) (kept 0))"
+    ∷ "(zoommin met (levels 1) (low 0) (high 0 0 0 0) (kept 0))"
     ∷ "(density 0)"
     ∷ "(fill broken under 1 0)"
     ∷ []))
     ∷ row "undecided under, one tile to the window"
     (prints "(job (size 1) (window 1) (cut 1) (gap 0) (bounds 1 10000) (zoom 0 6))\n(fill 0 0 1)\n(end)\n")
     (printedLines
-    ("(exact (max 0 0 0) (min 0 0 0))"
-    ∷ "(zoom met (levels 1) (floor 0 0 0) (ceiling 0) (kept 0))"
-    ∷ "(zoommin met (levels 1) (low 0) (high 0 0 0) (kept 0))"
+    ("(exact (max 0 0 0 0) (min 0 0 0 0))"
+    ∷ "(zoom met (levels 1) (floor 0 0 0 0) (ceiling 0) (kept 0))"
+    ∷ "(zoommin met (levels 1) (low 0) (high 0 0 0 0) (kept 0))"
     ∷ "(density 0)"
     ∷ "(fill undecided under 0 0)"
     ∷ []))

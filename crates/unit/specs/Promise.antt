@@ -10,7 +10,7 @@ use lib.Dec.{T}
 use Rattle.geometry.specs.declared.Spot.{Spot}
 use Rattle.geometry.specs.declared.Sense.{Sense}
 use Rattle.geometry.specs.Extreme.{Bounded}
-use Rattle.extremes.specs.Exact.{windowArea, Position, extremeIn}
+use Rattle.extremes.specs.Exact.{windowArea, windowShapes, Position, extremeIn}
 use Rattle.zoom.specs.declared.Level.{Level}
 use Rattle.zoom.specs.declared.Quick.{Quick}
 use Rattle.zoom.specs.Run.{lastLevel, levelStep, levelAt, lowEnd, highEnd, Brackets, Narrows, endNumber}
@@ -18,10 +18,10 @@ use Rattle.fill.specs.declared.Bound.{Bound}
 use Rattle.fill.specs.declared.Verdict.{Verdict}
 use Rattle.fill.specs.Judge.{boundNumber, verdictNumbers}
 use Rattle.fill.specs.Placement.{Placement, placedSum, keeps}
-use Rattle.jobfile.specs.Forms.{tileSide}
+use Rattle.jobfile.specs.Forms.{tileSide, planOf}
 use Rattle.jobfile.specs.Faults.{Standing}
 use Rattle.unit.specs.declared.run.Answer.{Answer}
-use Rattle.unit.specs.Answering.{planOf, quickIn}
+use Rattle.unit.specs.Answering.{quickIn}
 
 -- (x, y) is a whole-number window position of the job
 abbrev pub PositionOf : Standing → (x y : ℕ) → Type 0
@@ -30,6 +30,10 @@ PositionOf st x y = Position (st .head .size) (st .head .window) x y
 -- the area of the window at a position
 abbrev pub areaAt : Standing → (x y : ℕ) → ℕ
 areaAt st x y = windowArea (st .shapes) (st .head .window) x y
+
+-- the shapes under the window at a position
+abbrev pub shapesAt : Standing → (x y : ℕ) → ℕ
+shapesAt st x y = windowShapes (st .shapes) (st .head .window) x y
 
 -- a named window is a position, and the area named with it is its area
 pub record RealWindow (st : Standing) (p : Spot) : Type 0 where
@@ -108,6 +112,19 @@ pub record QuickPromise (s : Sense) (st : Standing) (q : Quick) (m : ℕ) : Type
   pub each-level : (j : ℕ) → j ≤ lastLevel (st .head .window) → LevelPromise s st j m
   pub narrows : (j : ℕ) → j < lastLevel (st .head .window) → Narrows s (levelIn s st j) (levelIn s st (suc j))
 
+-- a count that is printed with a named window is the number of drawn rectangles that share a unit square with it, and 0 exactly if its area is
+pub record CountPromise (st : Standing) (p : Spot) (count : ℕ) : Type 0 where
+  pub shapes : count ≡ shapesAt st (p .x) (p .y)
+  pub none-counted : count ≡ 0 → p .area ≡ 0
+  pub none-covered : p .area ≡ 0 → count ≡ 0
+
+-- each count is that of the window after whose word it is printed
+pub record CountsPromise (st : Standing) (a : Answer) : Type 0 where
+  pub max : CountPromise st (a .exact .greatest) (a .counts .max)
+  pub min : CountPromise st (a .exact .least) (a .counts .min)
+  pub floor : CountPromise st (a .greatest .last .named) (a .counts .floor)
+  pub high : CountPromise st (a .least .last .named) (a .counts .high)
+
 -- the fill, whichever eligible unit squares it takes: after "safe" every position keeps both bounds, on the tile grid or off it; after
 -- "broken" the named window is a position and breaks the bound named; and there is at least one placement
 pub record FillPromise (st : Standing) (v : Verdict) : Type 0 where
@@ -117,8 +134,9 @@ pub record FillPromise (st : Standing) (v : Verdict) : Type 0 where
       KeepsAt st chosen b (i * tileSide (st .head)) (j * tileSide (st .head)) → ⊥
   pub placeable : (chosen : ℕ → ℕ → Bool) × Places st chosen
 
--- the answer to an accepted job: both extremes, the quick run of each beside it, and the fill
+-- the answer to an accepted job: both extremes, the quick run of each beside it, the shapes under the windows that these name, and the fill
 pub record Promises (st : Standing) (a : Answer) : Type 0 where
   pub exact : (s : Sense) → ExactPromise s st (extremeIn s (a .exact))
   pub quick : (s : Sense) → QuickPromise s st (quickIn s a) (extremeIn s (a .exact) .area)
+  pub counts : CountsPromise st a
   pub fill : FillPromise st (a .verdict)

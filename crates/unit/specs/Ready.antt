@@ -1,20 +1,22 @@
 -- A job that may be run. A buyer need not read it.
-use Prim.Native.Nat.{ℕ, _*_, _≤_}
+use Prim.Native.Nat.{ℕ, _+_, _*_, _≤_}
 use mathlib.Core.Path.{_≡_}
 use mathlib.Core.List.{List}
 use lib.ListN.{length, take}
+use Rattle.geometry.specs.declared.Spot.{Spot}
 use Rattle.geometry.specs.Sizes.{widest}
 use Rattle.geometry.specs.Layout.{Drawn, rectsOf}
+use Rattle.extremes.specs.declared.Extremes.{Extremes}
+use Rattle.zoom.specs.declared.Quick.{Quick}
 use Rattle.zoom.specs.Sizes.{mostAccuracy}
 use Rattle.fill.specs.Sizes.{Planned}
 use Rattle.jobfile.specs.declared.Head.{Head}
 use Rattle.jobfile.specs.declared.Job.{Job}
 use Rattle.jobfile.specs.declared.Turn.the-variants.{Done}
 use Rattle.jobfile.specs.Limits.{unitLimits}
-use Rattle.jobfile.specs.Forms.{tilesAcross}
+use Rattle.jobfile.specs.Forms.{tilesAcross, planOf}
 use Rattle.jobfile.specs.Faults.{Standing}
 use Rattle.jobfile.specs.Held.{shapesRoom, amountsRoom, tileCount}
-use Rattle.unit.specs.Answering.{planOf}
 
 -- what a head and the two tables stand for
 abbrev pub standingOf : Head → (rects amounts : List ℕ) → Standing
@@ -28,6 +30,17 @@ pub record Ready (h : Head) (rects amounts : List ℕ) : Type 0 where
   pub small : h .size ≤ widest
   pub accurate : h .accuracy ≤ mostAccuracy
   pub planned : Planned rects amounts (planOf h)
+
+-- the window of side w at a named corner ends where coordinates are small, and so do all that an answer names
+pub record SmallSpot (w : ℕ) (p : Spot) : Type 0 where
+  pub right : p .x + w ≤ widest
+  pub high : p .y + w ≤ widest
+
+pub record SmallSpots (w : ℕ) (e : Extremes) (greatest least : Quick) : Type 0 where
+  pub max : SmallSpot w (e .greatest)
+  pub min : SmallSpot w (e .least)
+  pub floor : SmallSpot w (greatest .last .named)
+  pub high : SmallSpot w (least .last .named)
 
 -- the tables of a job that was read, without the zeros behind them, and what stands at its end
 abbrev pub jobRects : Job → List ℕ

@@ -6,7 +6,7 @@ abbrev pub numberRoom : ℕ
 numberRoom = 20
 
 abbrev pub exactRoom : ℕ
-exactRoom = 160
+exactRoom = 200
 
 -- the line of a quick run: its word, its end, its last level
 abbrev pub zoomWordRoom : ℕ
@@ -16,7 +16,7 @@ abbrev pub endRoom : ℕ
 endRoom = 7
 
 abbrev pub levelPartRoom : ℕ
-levelPartRoom = 176
+levelPartRoom = 192
 
 abbrev pub zoomRoom : ℕ
 zoomRoom = zoomWordRoom + endRoom + levelPartRoom

@@ -13,8 +13,8 @@ ghost use Rattle.unit.specs.Whole.{replyFor, codeOf};
 ghost use Rattle.unit.specs.Guarantee.{Guarantee, Reported};
 
 // The room that every answer fits, with 20 digits to each number: the five
-// lines take at most 160, 192, 192, 40 and 72 bytes.
-pub const ANSWER_ROOM: usize = 160 + 192 + 192 + 40 + 72;
+// lines take at most 200, 208, 208, 40 and 72 bytes.
+pub const ANSWER_ROOM: usize = 200 + 208 + 208 + 40 + 72;
 
 // What the unit replies: the answer's length, or the number and line of the
 // fault that the job was refused for.

@@ -1,22 +1,62 @@
 // The phases of a job in turn.
 use extremes::Extremes;
-use fill::Plan;
 use fill::Verdict;
 use geometry::Sense;
+use geometry::Spot;
 use jobfile::Head;
 use zoom::Asked;
 use zoom::Quick;
 ghost use mathlib.Core.Path.{_≡_};
-ghost use Rattle.unit.specs.Answering.{answerOf};
-ghost use Rattle.unit.specs.Ready.{Ready, standingOf};
+ghost use Rattle.geometry.specs.Layout.{rectsOf, Drawn};
+ghost use Rattle.extremes.specs.Exact.{windowShapes};
+ghost use Rattle.unit.specs.Answering.{countsOf, answerOf};
+ghost use Rattle.unit.specs.Ready.{SmallSpot, SmallSpots, Ready, standingOf};
+
+// The shapes under each window that an answer names, by the word it stands after.
+pub struct Counts {
+    pub max: u64,
+    pub min: u64,
+    pub floor: u64,
+    pub high: u64,
+}
 
 // What an accepted job is answered, before it is written as text.
 pub struct Answer {
     pub exact: Extremes, // the exact run
     pub greatest: Quick, // the quick run for the greatest window
     pub least: Quick, // the quick run for the least window
+    pub counts: Counts, // the shapes under the windows that these name
     pub density: u64, // of the bracket of the greatest
     pub verdict: Verdict, // on the fill
+}
+
+// The shapes under a named window of side w.
+fn shapes_at(rects: &[u64], w: u64, p: Spot) -> u64
+    requires { ⌜ Drawn (now rects) ⌝ }
+    requires { ⌜ SmallSpot w p ⌝ }
+    ensures { λ r. ⌜ r ≡ windowShapes (rectsOf (now (rects .entry))) w (p .x) (p .y) ⌝ }
+{
+    let cover = geometry::cover_of(rects, geometry::window_box(w, p.x, p.y));
+    cover.shapes
+}
+
+// The shapes under the windows that the runs name, counted once for each: no
+// search carries them along.
+fn counts_of(rects: &[u64], w: u64, exact: Extremes, greatest: Quick, least: Quick) -> Counts
+    requires { ⌜ Drawn (now rects) ⌝ }
+    requires { ⌜ SmallSpots w exact greatest least ⌝ }
+    ensures { λ r. ⌜ r ≡ countsOf (rectsOf (now (rects .entry))) w exact greatest least ⌝ }
+{
+    let max = shapes_at(rects, w, exact.greatest);
+    let min = shapes_at(rects, w, exact.least);
+    let floor = shapes_at(rects, w, greatest.last.named);
+    let high = shapes_at(rects, w, least.last.named);
+    Counts {
+        max,
+        min,
+        floor,
+        high,
+    }
 }
 
 // The answer to a job. The exact run's windows are handed to the quick runs, so
@@ -27,8 +67,6 @@ pub(crate) fn run(head: Head, rects: &[u64], amounts: &[u64]) -> Answer
 {
     let size = head.size;
     let window = head.window;
-    let side = jobfile::tile_side(head);
-    let across = jobfile::tiles_across(head);
     let exact = extremes::exact_run(rects, size, window);
     let max = exact.greatest;
     let min = exact.least;
@@ -40,20 +78,14 @@ pub(crate) fn run(head: Head, rects: &[u64], amounts: &[u64]) -> Answer
     };
     let greatest = zoom::quick_run(Sense::Greatest, rects, asked, max);
     let least = zoom::quick_run(Sense::Least, rects, asked, min);
+    let counts = counts_of(rects, window, exact, greatest, least);
     let density = zoom::density(window, greatest.last.named.area, greatest.last.limit);
-    let plan = Plan {
-        across,
-        cut: head.cut,
-        side,
-        window,
-        lower: head.lower,
-        upper: head.upper,
-    };
-    let verdict = fill::judge(rects, amounts, plan);
+    let verdict = fill::judge(rects, amounts, jobfile::plan_of(head));
     Answer {
         exact,
         greatest,
         least,
+        counts,
         density,
         verdict,
     }

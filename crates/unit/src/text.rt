@@ -1,5 +1,6 @@
 // The answer's five lines, written by pattern into a lent buffer.
 use crate::run::Answer;
+use crate::run::Counts;
 use extremes::Extremes;
 use fill::Bound;
 use fill::Verdict;
@@ -24,19 +25,21 @@ pub(crate) fn write_line(pattern: &[u8], values: &[u64], out: &mut [u8], at: usi
     spelling::write_as(pattern, values, out, at)
 }
 
-fn write_exact(e: Extremes, out: &mut [u8], at: usize) -> usize
+fn write_exact(e: Extremes, counts: Counts, out: &mut [u8], at: usize) -> usize
     requires { ⌜ at + exactRoom ≤ length (now out) ⌝ }
-    ensures { λ r. ⌜ WrittenIn exactRoom (now (out .entry)) at (exactLine e) (now (out .exit)) r ⌝ }
+    ensures { λ r. ⌜ WrittenIn exactRoom (now (out .entry)) at (exactLine e counts) (now (out .exit)) r ⌝ }
 {
     let values = [
         e.greatest.area,
         e.greatest.x,
         e.greatest.y,
+        counts.max,
         e.least.area,
         e.least.x,
         e.least.y,
+        counts.min,
     ];
-    write_line(b"(exact (max # # #) (min # # #))\n", &values, out, at)
+    write_line(b"(exact (max # # # #) (min # # # #))\n", &values, out, at)
 }
 
 // Writes bytes as they stand.
@@ -69,25 +72,32 @@ fn write_end(end: End, out: &mut [u8], at: usize) -> usize
     }
 }
 
-fn write_level(sense: Sense, done: u64, last: Level, out: &mut [u8], at: usize) -> usize
+fn write_level(
+    sense: Sense,
+    done: u64,
+    last: Level,
+    shapes: u64,
+    out: &mut [u8],
+    at: usize,
+) -> usize
     requires { ⌜ at + levelPartRoom ≤ length (now out) ⌝ }
-    ensures { λ r. ⌜ WrittenIn levelPartRoom (now (out .entry)) at (levelPart sense done last) (now (out .exit)) r ⌝ }
+    ensures { λ r. ⌜ WrittenIn levelPartRoom (now (out .entry)) at (levelPart sense done last shapes) (now (out .exit)) r ⌝ }
 {
-    let named = last.named;
+    let p = last.named;
     match sense {
         Sense::Greatest => {
-            let values = [done, named.area, named.x, named.y, last.limit, last.kept];
+            let values = [done, p.area, p.x, p.y, shapes, last.limit, last.kept];
             write_line(
-                b" (levels #) (floor # # #) (ceiling #) (kept #))\n",
+                b" (levels #) (floor # # # #) (ceiling #) (kept #))\n",
                 &values,
                 out,
                 at,
             )
         }
         Sense::Least => {
-            let values = [done, last.limit, named.area, named.x, named.y, last.kept];
+            let values = [done, last.limit, p.area, p.x, p.y, shapes, last.kept];
             write_line(
-                b" (levels #) (low #) (high # # #) (kept #))\n",
+                b" (levels #) (low #) (high # # # #) (kept #))\n",
                 &values,
                 out,
                 at,
@@ -96,15 +106,15 @@ fn write_level(sense: Sense, done: u64, last: Level, out: &mut [u8], at: usize) 
     }
 }
 
-fn write_quick(sense: Sense, q: Quick, out: &mut [u8], at: usize) -> usize
+fn write_quick(sense: Sense, q: Quick, shapes: u64, out: &mut [u8], at: usize) -> usize
     requires { ⌜ at + zoomRoom ≤ length (now out) ⌝ }
-    ensures { λ r. ⌜ WrittenIn zoomRoom (now (out .entry)) at (zoomLine sense q) (now (out .exit)) r ⌝ }
+    ensures { λ r. ⌜ WrittenIn zoomRoom (now (out .entry)) at (zoomLine sense q shapes) (now (out .exit)) r ⌝ }
 {
     let end = q.end;
     let last = q.last;
     let after_word = write_zoom_word(sense, out, at);
     let after_end = write_end(end, out, after_word);
-    write_level(sense, q.done, last, out, after_end)
+    write_level(sense, q.done, last, shapes, out, after_end)
 }
 
 fn write_density(density: u64, out: &mut [u8], at: usize) -> usize
@@ -169,10 +179,11 @@ pub(crate) fn write_answer(a: Answer, out: &mut [u8]) -> usize
     let exact = a.exact;
     let greatest = a.greatest;
     let least = a.least;
+    let counts = a.counts;
     let verdict = a.verdict;
-    let first = write_exact(exact, out, 0);
-    let second = write_quick(Sense::Greatest, greatest, out, first);
-    let third = write_quick(Sense::Least, least, out, second);
+    let first = write_exact(exact, counts, out, 0);
+    let second = write_quick(Sense::Greatest, greatest, counts.floor, out, first);
+    let third = write_quick(Sense::Least, least, counts.high, out, second);
     let fourth = write_density(a.density, out, third);
     write_verdict(verdict, out, fourth)
 }

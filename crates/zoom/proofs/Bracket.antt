@@ -16,10 +16,10 @@ use Rattle.geometry.specs.declared.Sense.{Sense}
 use Rattle.geometry.specs.declared.Sense.the-variants.{Greatest, Least}
 use Rattle.geometry.specs.Extreme.{better, spotAt, replaced, bestInRows, NoBetter}
 use Rattle.geometry.specs.Count.{sum, one-if}
-use Rattle.geometry.specs.Layout.{covered, coveredArea, windowBox}
-use Rattle.geometry.proofs.Counting.{sum-cong, sum-zero, box-const}
+use Rattle.geometry.specs.Layout.{coveredArea, windowBox}
+use Rattle.geometry.proofs.Counting.{sum-cong, sum-zero}
 use Rattle.geometry.proofs.Totals.{small-product}
-use Rattle.geometry.proofs.Overlaps.{area-small}
+use Rattle.geometry.proofs.Overlaps.{area-small, nothing-covered}
 use Rattle.geometry.proofs.Extremes.{better-self, step-better, step-skip}
 use Rattle.extremes.specs.Exact.{windowArea, extreme}
 use Rattle.extremes.proofs.Searches.{position, extreme-best}
@@ -299,13 +299,6 @@ unfolding quickRun
 levels-at-most s rs n w e v h = levels-from s rs n w e v (lastLevel w) 0 h
 
 -- ---- a layout with no rectangle
-
-nothing-covered : (b : Rect) → coveredArea [] b ≡ 0
-unfolding covered
-nothing-covered b = box-const b 0 ∙ flat
-  where
-    flat : (b .y2 - b .y1) * ((b .x2 - b .x1) * 0) ≡ 0
-    flat = omega arith
 
 far-nothing : (s : Sense) (n w t x y : ℕ) → farArea s [] n w t x y ≡ 0
 far-nothing s n w t x y = nothing-covered (farWindow s n w t x y)

@@ -74,11 +74,11 @@ fn file_lengths() -> Vec<BoundaryJob> {
     ]
 }
 
-fn unit_squares(count: usize) -> Vec<u8> {
-    let across = 20;
-    let mut lines = vec![Line::Head([across, 4, 2, 1, 0, 10_000, 0, 6])];
+/// A job with layout and window of these sides and so many unit squares.
+fn unit_squares(size: u64, window: u64, count: usize) -> Vec<u8> {
+    let mut lines = vec![Line::Head([size, window, 2, 1, 0, 10_000, 0, 6])];
     for square in 0..count as u64 {
-        let (x, y) = (square % across, square / across);
+        let (x, y) = (square % size, square / size);
         lines.push(Line::Rect([x, y, x + 1, y + 1]));
     }
     lines.push(Line::End);
@@ -86,11 +86,14 @@ fn unit_squares(count: usize) -> Vec<u8> {
 }
 
 fn rectangle_counts() -> Vec<BoundaryJob> {
+    let spread = |count| unit_squares(20, 4, count);
+    let gathered = unit_squares(16, 16, MOST_RECTS);
     vec![
-        accepted("no rectangle", unit_squares(0)),
-        accepted("255 rectangles", unit_squares(MOST_RECTS - 1)),
-        accepted("256 rectangles", unit_squares(MOST_RECTS)),
-        refused("257 rectangles", unit_squares(MOST_RECTS + 1), 8, 258),
+        accepted("no rectangle", spread(0)),
+        accepted("255 rectangles", spread(MOST_RECTS - 1)),
+        accepted("256 rectangles", spread(MOST_RECTS)),
+        refused("257 rectangles", spread(MOST_RECTS + 1), 8, 258),
+        accepted("256 rectangles under one window", gathered),
     ]
 }
 

@@ -33,7 +33,7 @@ pub fn large_jobs() -> Vec<LargeJob> {
 
 /// A job without rectangles and fills, bounds that hold always, and the quick
 /// runs as long as they get.
-fn shape(tile: u64, tiles: u64, cut: u64) -> Job {
+fn bare_job(tile: u64, tiles: u64, cut: u64) -> Job {
     Job {
         size: tile * tiles,
         window: tile * cut,
@@ -80,7 +80,7 @@ fn grid_of_different_sides(random: &mut Random, size: u64, across: u64) -> Vec<[
 /// Every side of 256 rectangles gives candidates of its own to the exact run.
 fn different_sides() -> Job {
     let mut random = Random::new(1);
-    let mut job = shape(1285, 51, 16);
+    let mut job = bare_job(1285, 51, 16);
     job.gap = 100;
     job.rects = grid_of_different_sides(&mut random, job.size, 16);
     job.fills = fast::fillable_areas(&job);
@@ -92,7 +92,7 @@ fn different_sides() -> Job {
 /// as may stand. `bar` gives each by its number, the left end of its room and
 /// the layout's size.
 fn barred(bar: impl Fn(u64, u64, u64) -> [u64; 4]) -> Job {
-    let mut job = shape(1008, MOST_TILES, 1);
+    let mut job = bare_job(1008, MOST_TILES, 1);
     let bars = MOST_RECTS as u64;
     let room = job.size / bars;
     job.rects = (0..bars).map(|k| bar(k, k * room, job.size)).collect();
@@ -131,7 +131,7 @@ fn windows_alike() -> Job {
 /// 4096 tiles, as many of them filled as the file has room for.
 fn most_tiles() -> Job {
     let mut random = Random::new(3);
-    let mut job = shape(1023, MOST_TILES, 32);
+    let mut job = bare_job(1023, MOST_TILES, 32);
     job.gap = 20;
     job.lower = 1;
     job.rects = grid_of_different_sides(&mut random, job.size, 10);
@@ -146,7 +146,7 @@ fn most_tiles() -> Job {
 /// Forbidden ground that overlaps much.
 fn wide_gaps() -> Job {
     let mut random = Random::new(4);
-    let mut job = shape(1023, MOST_TILES, 64);
+    let mut job = bare_job(1023, MOST_TILES, 64);
     job.gap = 1200;
     job.rects = grid_of_different_sides(&mut random, job.size, 16);
     for rect in &mut job.rects {
@@ -160,7 +160,7 @@ fn wide_gaps() -> Job {
 /// The last position is a start at no level.
 fn ragged_starts() -> Job {
     let mut random = Random::new(5);
-    let mut job = shape(1023, MOST_TILES, 48);
+    let mut job = bare_job(1023, MOST_TILES, 48);
     job.rects = grid_of_different_sides(&mut random, job.size, 16);
     job.accuracy = 1;
     job
@@ -168,7 +168,7 @@ fn ragged_starts() -> Job {
 
 fn single_squares() -> Job {
     let mut random = Random::new(6);
-    let mut job = shape(3855, 17, 8);
+    let mut job = bare_job(3855, 17, 8);
     job.rects = grid_of_different_sides(&mut random, job.size, 16);
     for rect in &mut job.rects {
         (rect[2], rect[3]) = (rect[0] + 1, rect[1] + 1);
@@ -178,14 +178,14 @@ fn single_squares() -> Job {
 }
 
 fn covered_wholly() -> Job {
-    let mut job = shape(1285, 51, 51);
+    let mut job = bare_job(1285, 51, 51);
     job.rects = vec![[0, 0, LARGEST_SIDE, LARGEST_SIDE]];
     job.lower = 10_000;
     job
 }
 
 fn filled_wholly() -> Job {
-    let mut job = shape(LARGEST_SIDE, 1, 1);
+    let mut job = bare_job(LARGEST_SIDE, 1, 1);
     job.fills = vec![LARGEST_SIDE * LARGEST_SIDE];
     job
 }
@@ -199,7 +199,7 @@ pub fn large_job(random: &mut Random) -> Vec<u8> {
     if random.one_in(2) {
         tile -= tile % 16;
     }
-    let mut job = shape(tile, tiles, cut);
+    let mut job = bare_job(tile, tiles, cut);
     job.gap = random.pick(&[0, 1, 10, 100, 1000, 20_000]);
     job.accuracy = random.pick(&[0, 0, 1, 10, 100, 1000]);
     job.levels = random.between(1, 6);

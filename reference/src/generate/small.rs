@@ -18,7 +18,7 @@ pub fn small_job(random: &mut Random) -> Vec<u8> {
 
 /// The lines of a random valid job, the fills in random order.
 pub fn small_lines(random: &mut Random) -> Vec<Line> {
-    let mut job = shape(random);
+    let mut job = bare_job(random);
     job.gap = match random.below(8) {
         0..=2 => 0,
         3..=4 => 1,
@@ -42,8 +42,8 @@ pub fn small_lines(random: &mut Random) -> Vec<Line> {
     lines
 }
 
-/// Size, window and cut.
-fn shape(random: &mut Random) -> Job {
+/// A job with size, window and cut alone.
+fn bare_job(random: &mut Random) -> Job {
     let (tile, cut) = match random.below(9) {
         0..=3 => halving_window(random, 16),
         4 => halving_window(random, LONGEST_WINDOW),

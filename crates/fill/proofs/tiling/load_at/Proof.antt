@@ -1,7 +1,9 @@
 -- `fill::tiling::load_at` meets its contract: the tile lies in the layout, and holds no more than its area twice. Assumes nothing.
 use Prim.Native.Nat.{_<_}
+use mathlib.Core.Path.{ap}
 use native.Mathlib.Omega.{arith}
 use borrow.Author.Needs.{needs}
+use Rattle.geometry.specs.declared.Cover.{Cover}
 use Rattle.fill.proofs.Loads.{some, tile-inside, load-formed, load-fits}
 use Rattle.fill.proofs.tiling.load_at.Statement.{statement}
 use Rattle.fill.proofs.tiling.load_at.Tie as tie
@@ -17,19 +19,21 @@ tile-box-requires c κs =
 
 add-result : tie.Need-add-result
 add-result c =
-    let s = c .before .before .before .before .before .before .before in
+    let s = c .before .before .before .before .before .before .before .before in
     let a = s .args in
+    let box = c .before .before .before .tile-box in
+    let cover = c .before .before .cover-of in
     omega (
       arith,
-      load-fits (a .rects .now) (a .amounts .now) (a .plan) (a .t) (c .before .area .result) (c .before .before .tile-box .result)
-          (c .before .before .tile-box .ensures) (c .before .area .ensures) (s .pre .0) (s .pre .1),
+      load-fits (a .rects .now) (a .amounts .now) (a .plan) (a .t) (cover .result .area) (box .result) (box .ensures) (ap (λ (k : Cover). k .area) (cover .ensures)) (s .pre .0) (s .pre .1),
     )
 
 returns : tie.Need-returns
 returns c =
-    let a = c .before .before .before .before .before .before .before .args in
-    load-formed (a .rects .now) (a .amounts .now) (a .plan) (a .t) (c .before .area .result) (c .before .before .tile-box .result)
-    (c .before .before .tile-box .ensures) (c .before .area .ensures)
+    let a = c .before .before .before .before .before .before .before .before .args in
+    let box = c .before .before .before .tile-box in
+    let cover = c .before .before .cover-of in
+    load-formed (a .rects .now) (a .amounts .now) (a .plan) (a .t) (cover .result .area) (box .result) (box .ensures) (ap (λ (k : Cover). k .area) (cover .ensures))
 
 pub load-at-spec : {M : Type 1} → statement M
 load-at-spec =

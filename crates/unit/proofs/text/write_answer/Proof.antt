@@ -9,7 +9,7 @@ use Rattle.unit.proofs.text.write_answer.Tie as tie
 returns : tie.Need-returns
 unfolding textOf
 returns c =
-    let room = c .before .before .before .before .before .before .before .before .before .before .before .before .before .before .before .before .before .before .before .before .before .before .before .before .pre in
+    let room = c .before .before .before .before .before .before .before .before .before .before .before .before .before .before .before .before .before .before .before .before .before .before .before .before .before .pre in
     in-turn (omega (arith, room))
     (in-turn (omega (arith, room))
     (in-turn (omega (arith, room))
