@@ -1,10 +1,11 @@
 -- A list written at the front of a buffer, at once or by a loop over a table.
-use Prim.Native.Nat.{ℕ, _+_, _-_, _≤_}
+use Prim.Native.Nat.{ℕ, _+_, _-_, _*_, _≤_}
 use mathlib.Core.Path.{_≡_, refl, sym, ap, ap₂, _∙_}
 use mathlib.Core.List.{List, [], _++_, append-nil, append-assoc}
+use native.Mathlib.Nat.{mul-le-mul-left}
 use native.Mathlib.Omega.{arith}
-use lib.ListN.{length, take, drop, length-append, take-append-drop}
-use lib.Seq.{take-at, drop-at, drop-append-add, drop-drop, length-take-le}
+use lib.ListN.{length, take, drop, length-append, length-drop, take-append-drop, drop-of-length-le}
+use lib.Seq.{take-all, take-at, drop-at, drop-append-add, drop-drop, length-take-le}
 use Rattle.buffers.specs.Written.{Written, Front}
 use Rattle.buffers.proofs.Writing.{written-length}
 
@@ -36,18 +37,39 @@ front-chain before l mid m after k r f g h = record { count = g .count; buffer =
         rw (← more, f .buffer)
         (drop-append-add l (drop (length l) before) (length m - length l) ∙ drop-drop (length m - length l) (length l) before)
 
+-- what stands behind a place, as a part of a buffer
+pub part-from : (l : List ℕ) (a : ℕ) → take (length l - a) (drop a l) ≡ drop a l
+part-from l a = take-all (length l - a) (drop a l) (omega (arith, length-drop a l))
+
+-- a second list written behind the first, at the front of the part that begins there
+pub front-then : (before u mid w part : List ℕ) (a b : ℕ) → Front before u mid a → Front (take (length mid - a) (drop a mid)) w part b →
+    Front before (u ++ w) (take a mid ++ (part ++ drop (length mid - a) (drop a mid))) (a + b)
+front-then before u mid w part a b f g =
+    record {
+      count = omega (arith, f .count, g .count, length-append u w);
+      buffer =
+          ap₂ (λ (x y : List ℕ). x ++ (part ++ y)) (front-take before u mid a f) (drop-of-length-le (drop a mid) {i = length mid - a} (omega (arith, length-drop a mid)))
+          ∙ ap (λ (x : List ℕ). u ++ x) (append-nil part ∙ g .buffer ∙ ap (λ (x : List ℕ). w ++ drop (length w) x) (part-from mid a ∙ behind))
+          ∙ sym (append-assoc u w (drop (length w) (drop (length u) before)))
+          ∙ ap (λ (x : List ℕ). (u ++ w) ++ x) (drop-drop (length w) (length u) before ∙ ap (λ (k : ℕ). drop k before) (sym (length-append u w)));
+    }
+  where
+    behind : drop a mid ≡ drop (length u) before
+    behind = ap (drop a) (f .buffer) ∙ drop-at u (drop (length u) before) a (sym (f .count))
+
 -- ---- a list that a loop over a table writes at the front of a buffer
 
--- the loop stands at place i of the table t: what is written, up to `at`, and f of what is left make f of the table
-pub record FrontSoFar (f : List ℕ → List ℕ) (t before out : List ℕ) (at i : ℕ) : Type 0 where
+-- the loop stands at place i of the table t: what is written, up to `at`, and f of what is left make f of the table. For a number of the table at
+-- most `most` are written
+pub record FrontSoFar (f : List ℕ → List ℕ) (most : ℕ) (t before out : List ℕ) (at i : ℕ) : Type 0 where
   pub whole : take at out ++ f (drop i t) ≡ f t
   pub rest : drop at out ≡ drop at before
   pub same : length out ≡ length before
-  pub behind : at ≤ i
+  pub behind : at ≤ most * i
   pub within : i ≤ length t
 
-pub front-starts : (f : List ℕ → List ℕ) (t out : List ℕ) → FrontSoFar f t out out 0 0
-front-starts f t out = record { whole = refl; rest = refl; same = refl; behind = omega arith; within = omega arith }
+pub front-starts : (f : List ℕ → List ℕ) (most : ℕ) (t out : List ℕ) → FrontSoFar f most t out out 0 0
+front-starts f most t out = record { whole = refl; rest = refl; same = refl; behind = omega arith; within = omega arith }
 
 module _ (l : List ℕ) (at : ℕ) (w m : List ℕ) (r : ℕ) (p : Written l at w m r) (fits : r ≤ length l) where
   head-length : length (take at l ++ w) ≡ r
@@ -67,9 +89,10 @@ later-drop : (a b : List ℕ) (at n : ℕ) → drop at a ≡ drop at b → drop 
 later-drop a b at n e = sym (drop-drop n at a) ∙ ap (drop n) e ∙ drop-drop n at b
 
 -- k numbers of the table further, for which `one` was written
-module _ (f : List ℕ → List ℕ) (t before out : List ℕ) (at i : ℕ) (s : FrontSoFar f t before out at i) (room : length t ≤ length before) where
-  pub front-moves : (k : ℕ) (one m : List ℕ) (r : ℕ) → i + k ≤ length t → length one ≤ k → f (drop i t) ≡ one ++ f (drop (i + k) t) → Written out at one m r →
-      FrontSoFar f t before m r (i + k)
+module _ (f : List ℕ → List ℕ) (most : ℕ) (t before out : List ℕ) (at i : ℕ) (s : FrontSoFar f most t before out at i)
+    (room : most * length t ≤ length before) where
+  pub front-moves : (k : ℕ) (one m : List ℕ) (r : ℕ) → i + k ≤ length t → length one ≤ most * k → f (drop i t) ≡ one ++ f (drop (i + k) t) → Written out at one m r →
+      FrontSoFar f most t before m r (i + k)
   front-moves k one m r more short next p =
       record {
         whole =
@@ -88,7 +111,7 @@ module _ (f : List ℕ → List ℕ) (t before out : List ℕ) (at i : ℕ) (s :
       }
     where
       fits : r ≤ length out
-      fits = omega (arith, p .place, s .behind, s .same)
+      fits = omega (arith, p .place, s .behind, s .same, mul-le-mul-left most more)
 
   pub front-ends : f (drop i t) ≡ [] → Front before (f t) out at
   front-ends done =
@@ -104,4 +127,4 @@ module _ (f : List ℕ → List ℕ) (t before out : List ℕ) (at i : ℕ) (s :
       all = sym (append-nil (take at out)) ∙ ap (λ (l : List ℕ). take at out ++ l) (sym done) ∙ s .whole
 
       size : length (f t) ≡ at
-      size = ap length (sym all) ∙ length-take-le at out (omega (arith, s .behind, s .within, s .same))
+      size = ap length (sym all) ∙ length-take-le at out (omega (arith, s .behind, s .same, mul-le-mul-left most (s .within)))

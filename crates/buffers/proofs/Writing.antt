@@ -48,7 +48,10 @@ pub one-stored : (l : List ℕ) (at b : ℕ) → at < length l → Written l at 
 one-stored l at b h =
     record { buffer = set-split l at b h ∙ sym (append-assoc (take at l) (b ∷ []) (drop (at + 1) l) ∙ rw (add-one at)); place = refl }
 
--- three numbers stored, and none
+-- two numbers stored, and three, and none
+pub two-stored : (l : List ℕ) (at a b : ℕ) → at + 2 ≤ length l → Written l at (a ∷ b ∷ []) (set (set l at a) (at + 1) b) (at + 2)
+two-stored l at a b h = record { buffer = rw (add-one) (sets-eq (a ∷ b ∷ []) l at h); place = refl }
+
 pub three-stored : (l : List ℕ) (at a b c : ℕ) → at + 3 ≤ length l → Written l at (a ∷ b ∷ c ∷ []) (set (set (set l at a) (at + 1) b) (at + 2) c) (at + 3)
 three-stored l at a b c h = record { buffer = rw (add-one, add-two) (sets-eq (a ∷ b ∷ c ∷ []) l at h); place = refl }
 

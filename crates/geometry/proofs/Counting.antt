@@ -1,5 +1,5 @@
--- Laws of the one counting sum: congruence, order, addition, splits, exchange of the axes; then the same for boxes, and congruence for
--- lists of rectangles.
+-- Laws of the one counting sum: congruence, order, addition, splits, exchange of the axes; then the same for boxes, and congruence and addition
+-- for lists of rectangles.
 use Prim.Native.Nat.{ℕ, zero, suc, _+_, _-_, _*_, _≤_, _<_}
 use mathlib.Core.Path.{_≡_, refl, sym, ap, ap₂, _∙_}
 use mathlib.Core.List.{List, [], _∷_}
@@ -214,3 +214,8 @@ pub rect-cong : (rs : List Rect) (f g : Rect → ℕ) → ((r : Rect) → f r �
 unfolding rectSum
 rect-cong [] f g h = refl
 rect-cong (r ∷ rs) f g h = ap₂ _+_ (h r) (rect-cong rs f g h)
+
+pub rect-plus : (rs : List Rect) (f g : Rect → ℕ) → rectSum rs (λ r. f r + g r) ≡ rectSum rs f + rectSum rs g
+unfolding rectSum
+rect-plus [] f g = refl
+rect-plus (r ∷ rs) f g = omega (arith, rect-plus rs f g)

@@ -34,18 +34,18 @@ module _ (l : List ℕ) (at met a b h : ℕ) where
 abbrev pub stripIn : (y1 y2 : ℕ) → List ℕ → List ℕ
 stripIn y1 y2 t = stripOf (rectsOf t) y1 y2
 
-module _ (t : List ℕ) (y1 y2 : ℕ) (before out : List ℕ) (at i : ℕ) (s : FrontSoFar (stripIn y1 y2) t before out at i) (room : length t ≤ length before) where
+module _ (t : List ℕ) (y1 y2 : ℕ) (before out : List ℕ) (at i : ℕ) (s : FrontSoFar (stripIn y1 y2) 1 t before out at i) (room : length t ≤ length before) where
   pub strip-next : (m : List ℕ) (r : ℕ) → i + 3 < length t → Written out at (rowsPart (rectAt t i) y1 y2) m r →
-      FrontSoFar (stripIn y1 y2) t before m r (i + 4)
+      FrontSoFar (stripIn y1 y2) 1 t before m r (i + 4)
   unfolding stripOf
   strip-next m r more p =
-      front-moves (stripIn y1 y2) t before out at i s room 4 (rowsPart (rectAt t i) y1 y2) m r (omega arith)
+      front-moves (stripIn y1 y2) 1 t before out at i s (omega arith) 4 (rowsPart (rectAt t i) y1 y2) m r (omega arith)
       (omega (arith, part-short (common (getD t (i + 1) 0) (getD t (i + 3) 0) y1 y2) (getD t i 0) (getD t (i + 2) 0) (common (getD t (i + 1) 0) (getD t (i + 3) 0) y1 y2)))
       (ap (λ (rs : List Rect). stripOf rs y1 y2) (rects-next t i more)) p
 
   pub strip-end : length t ≤ i + 3 → Front before (stripIn y1 y2 t) out at
   unfolding stripOf
-  strip-end done = front-ends (stripIn y1 y2) t before out at i s room (ap (λ (rs : List Rect). stripOf rs y1 y2) (rects-end t i done))
+  strip-end done = front-ends (stripIn y1 y2) 1 t before out at i s (omega arith) (ap (λ (rs : List Rect). stripOf rs y1 y2) (rects-end t i done))
 
 -- ---- the strip between some columns
 
@@ -56,18 +56,18 @@ short-narrowed (a ∷ []) x1 x2 h = refl
 short-narrowed (a ∷ b ∷ []) x1 x2 h = refl
 short-narrowed (a ∷ b ∷ c ∷ s) x1 x2 h = absurd (omega arith)
 
-module _ (t : List ℕ) (x1 x2 : ℕ) (before out : List ℕ) (at i : ℕ) (s : FrontSoFar (λ l. narrowed l x1 x2) t before out at i) (room : length t ≤ length before) where
+module _ (t : List ℕ) (x1 x2 : ℕ) (before out : List ℕ) (at i : ℕ) (s : FrontSoFar (λ l. narrowed l x1 x2) 1 t before out at i) (room : length t ≤ length before) where
   pub narrow-next : (m : List ℕ) (r : ℕ) → i + 2 < length t → Written out at (columnsPart t i x1 x2) m r →
-      FrontSoFar (λ l. narrowed l x1 x2) t before m r (i + 3)
+      FrontSoFar (λ l. narrowed l x1 x2) 1 t before m r (i + 3)
   unfolding narrowed
   narrow-next m r more p =
-      front-moves (λ l. narrowed l x1 x2) t before out at i s room 3 (columnsPart t i x1 x2) m r (omega arith)
-      (part-short (common (getD t i 0) (getD t (i + 1) 0) x1 x2) (getD t i 0) (getD t (i + 1) 0) (getD t (i + 2) 0))
+      front-moves (λ l. narrowed l x1 x2) 1 t before out at i s (omega arith) 3 (columnsPart t i x1 x2) m r (omega arith)
+      (omega (arith, part-short (common (getD t i 0) (getD t (i + 1) 0) x1 x2) (getD t i 0) (getD t (i + 1) 0) (getD t (i + 2) 0)))
       (ap (λ (l : List ℕ). narrowed l x1 x2) (three-at t i more)) p
 
   pub narrow-end : length t ≤ i + 2 → Front before (narrowed t x1 x2) out at
   narrow-end done =
-      front-ends (λ l. narrowed l x1 x2) t before out at i s room (short-narrowed (drop i t) x1 x2 (omega (arith, length-drop i t)))
+      front-ends (λ l. narrowed l x1 x2) 1 t before out at i s (omega arith) (short-narrowed (drop i t) x1 x2 (omega (arith, length-drop i t)))
 
 -- what was left out adds nothing between those columns
 pub narrowed-sum : (s : List ℕ) (x1 x2 a b : ℕ) → x1 ≤ a → b ≤ x2 → stripSum (narrowed s x1 x2) a b ≡ stripSum s a b

@@ -59,7 +59,7 @@ pub fn larger(a: u64, b: u64) -> u64
 }
 
 // How many numbers the spans a to b and c to d have in common.
-fn common_length(a: u64, b: u64, c: u64, d: u64) -> u64
+pub fn common_length(a: u64, b: u64, c: u64, d: u64) -> u64
     ensures { λ r. ⌜ r ≡ common a b c d ⌝ }
 {
     let end = smaller(b, d);

@@ -11,13 +11,13 @@ use Rattle.geometry.proofs.narrow.Statement.{statement}
 use Rattle.geometry.proofs.narrow.Tie as tie
 
 abbrev Inv-loop : tie.InvT-loop
-Inv-loop strip x1 x2 out₀ at₀ i₀ out at i = FrontSoFar (λ l. narrowed l x1 x2) strip out₀ out at i
+Inv-loop strip x1 x2 out₀ at₀ i₀ out at i = FrontSoFar (λ l. narrowed l x1 x2) 1 strip out₀ out at i
 
 abbrev μ-loop : tie.MeasureT-loop
 μ-loop strip x1 x2 out₀ at₀ i₀ out at i = length strip - i
 
 loop-holds : tie.Need-loop-holds Inv-loop μ-loop
-loop-holds c = front-starts _ _ _
+loop-holds c = front-starts _ _ _ _
 
 add-loop : tie.Need-add-loop Inv-loop μ-loop
 add-loop c = omega arith

@@ -10,13 +10,13 @@ use Rattle.geometry.proofs.strip.Statement.{statement}
 use Rattle.geometry.proofs.strip.Tie as tie
 
 abbrev Inv-loop : tie.InvT-loop
-Inv-loop rects y1 y2 out₀ at₀ i₀ out at i = FrontSoFar (stripIn y1 y2) rects out₀ out at i
+Inv-loop rects y1 y2 out₀ at₀ i₀ out at i = FrontSoFar (stripIn y1 y2) 1 rects out₀ out at i
 
 abbrev μ-loop : tie.MeasureT-loop
 μ-loop rects y1 y2 out₀ at₀ i₀ out at i = length rects - i
 
 loop-holds : tie.Need-loop-holds Inv-loop μ-loop
-loop-holds c = front-starts _ _ _
+loop-holds c = front-starts _ _ _ _
 
 add-loop : tie.Need-add-loop Inv-loop μ-loop
 add-loop c = omega arith

@@ -1,0 +1,4 @@
+pub mod Sums
+pub mod Moving
+pub mod Sorted
+pub mod Covered
