@@ -95,27 +95,27 @@ passed-one P step [] b h all = h
 passed-one P step (p ∷ l) b h all =
     passed-one P step l (step p b) (all p b (List·Memᴰ·head refl) h) (λ q c m k. all q c (List·Memᴰ·tail m) k)
 
--- x is in one list and y in the other
-abbrev pub Listed : (xs ys : List ℕ) (x y : ℕ) → Type 0
-Listed xs ys x y = List·Memᴰ x xs × List·Memᴰ y ys
+-- y is in the list of rows, and x in the list of that row
+abbrev pub Listed : (xs : ℕ → List ℕ) (ys : List ℕ) (x y : ℕ) → Type 0
+Listed xs ys x y = List·Memᴰ x (xs y) × List·Memᴰ y ys
 
-module _ (s : Sense) (f : ℕ → ℕ → ℕ) (xs ys : List ℕ) where
-  row-before : (y : ℕ) (b : Spot) → Ahead s (leadingInRow s f xs y b) b
-  row-before y b = passed-before s (λ x b. leading s b (spotAt f x y)) (λ x b. leading-ahead s (spotAt f x y) b .0) xs b
+module _ (s : Sense) (f : ℕ → ℕ → ℕ) (xs : ℕ → List ℕ) (ys : List ℕ) where
+  row-before : (y : ℕ) (b : Spot) → Ahead s (leadingInRow s f (xs y) y b) b
+  row-before y b = passed-before s (λ x b. leading s b (spotAt f x y)) (λ x b. leading-ahead s (spotAt f x y) b .0) (xs y) b
 
-  row-tried : (y : ℕ) (b : Spot) (x : ℕ) → List·Memᴰ x xs → Ahead s (leadingInRow s f xs y b) (spotAt f x y)
+  row-tried : (y : ℕ) (b : Spot) (x : ℕ) → List·Memᴰ x (xs y) → Ahead s (leadingInRow s f (xs y) y b) (spotAt f x y)
   row-tried y b x m =
-      passed-tried s (λ x b. leading s b (spotAt f x y)) (λ x b. leading-ahead s (spotAt f x y) b .0) xs b (spotAt f x y) x m
+      passed-tried s (λ x b. leading s b (spotAt f x y)) (λ x b. leading-ahead s (spotAt f x y) b .0) (xs y) b (spotAt f x y) x m
       (λ b. leading-ahead s (spotAt f x y) b .1)
 
   rows-tried : (b : Spot) (x y : ℕ) → Listed xs ys x y → Ahead s (leadingInRows s f xs ys b) (spotAt f x y)
-  rows-tried b x y m = passed-tried s (λ y b. leadingInRow s f xs y b) row-before ys b (spotAt f x y) y (m .1) (λ b. row-tried y b x (m .0))
+  rows-tried b x y m = passed-tried s (λ y b. leadingInRow s f (xs y) y b) row-before ys b (spotAt f x y) y (m .1) (λ b. row-tried y b x (m .0))
 
   -- what is left is a window that was tried
   rows-one : (P : Spot → Type 0) (b : Spot) → P b → ((x y : ℕ) → Listed xs ys x y → P (spotAt f x y)) → P (leadingInRows s f xs ys b)
   rows-one P b h all =
-      passed-one P (λ y b. leadingInRow s f xs y b) ys b h
-      (λ y b k h. passed-one P (λ x b. leading s b (spotAt f x y)) xs b h (λ x b m h. leading-one s (spotAt f x y) b P h (all x y (m, k))))
+      passed-one P (λ y b. leadingInRow s f (xs y) y b) ys b h
+      (λ y b k h. passed-one P (λ x b. leading s b (spotAt f x y)) (xs y) b h (λ x b m h. leading-one s (spotAt f x y) b P h (all x y (m, k))))
 
   -- the search that begins with a listed position
   pub leading-best : (x₀ y₀ : ℕ) → Listed xs ys x₀ y₀ → IsBest s f (Listed xs ys) (leadingInRows s f xs ys (spotAt f x₀ y₀))

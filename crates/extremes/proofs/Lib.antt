@@ -1,7 +1,9 @@
 pub mod Candidates
 pub mod Tried
+pub mod Reached
 pub mod Leading
 pub mod Searches
 pub mod Lists
 pub mod Steps
+pub mod Sweeping
 pub mod Promises

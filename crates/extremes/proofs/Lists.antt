@@ -18,7 +18,7 @@ use Rattle.geometry.specs.Overlaps.{rectAt}
 use Rattle.buffers.specs.Written.{Front}
 use Rattle.buffers.proofs.Fronts.{front-same, front-take, front-chain}
 use Rattle.geometry.proofs.Tables.{rects-next, rects-end}
-use Rattle.extremes.specs.Search.{side, nearSide, farSide, listed, withPosition, withEnd, withSides, candidates}
+use Rattle.extremes.specs.Listing.{side, nearSide, farSide, listed, withPosition, withEnd, withSides, candidates}
 
 -- ---- a list is searched
 
@@ -183,7 +183,7 @@ sides-no-shorter near far last w (r ∷ rs) l =
     le-trans (position-grown last (side near r) l .no-shorter)
     (le-trans (end-grown last w (side far r) (withPosition last (side near r) l) .no-shorter) (sides-no-shorter near far last w rs _))
 
--- ---- the candidates of an axis
+-- ---- the rows that are tried
 
 pub stored-length : (out after : List ℕ) (i v : ℕ) → length after ≡ length (set out i v) → length after ≡ length out
 stored-length out after i v e = e ∙ length-set out i v
@@ -194,13 +194,13 @@ ends-listed [] after last r h f = absurd (omega arith)
 ends-listed (a ∷ s) after last r h f =
     front-chain (a ∷ s) (0 ∷ []) (0 ∷ s) _ after 1 r (record { count = refl; buffer = refl }) f (position-grown last last (0 ∷ []) .no-shorter)
 
-pub near-small : (s : Sense) (axis near : ℕ) → axis < 2 → near ≡ nearSide s axis → near < 4
-near-small Greatest axis near h e = omega arith
-near-small Least axis near h e = omega arith
+pub near-small : (s : Sense) (near : ℕ) → near ≡ nearSide s → near < 4
+near-small Greatest near e = omega arith
+near-small Least near e = omega arith
 
-pub far-small : (s : Sense) (axis far : ℕ) → axis < 2 → far ≡ farSide s axis → far < 4
-far-small Greatest axis far h e = omega arith
-far-small Least axis far h e = omega arith
+pub far-small : (s : Sense) (far : ℕ) → far ≡ farSide s → far < 4
+far-small Greatest far e = omega arith
+far-small Least far e = omega arith
 
 pub sides-room : (t out mid : List ℕ) (last count : ℕ) → length t + 4 ≤ 2 * length out → Front out (withPosition last last (0 ∷ [])) mid count →
     length mid ≡ length out → 2 * count + length t ≤ 2 * length mid
@@ -208,11 +208,11 @@ sides-room t out mid last count h f e =
     let two : length (withPosition last last (0 ∷ [])) ≤ 2 = position-grown last last (0 ∷ []) .one-longer in
     omega (arith, f .count)
 
-pub candidates-listed : (s : Sense) (axis n w : ℕ) (t out mid after : List ℕ) (near far count r : ℕ) →
-    Front out (withPosition (n - w) (n - w) (0 ∷ [])) mid count → near ≡ nearSide s axis → far ≡ farSide s axis →
-    Front mid (withSides near far (n - w) w (rectsOf t) (take count mid)) after r → Front out (candidates s axis (rectsOf t) n w) after r
+pub candidates-listed : (s : Sense) (n w : ℕ) (t out mid after : List ℕ) (near far count r : ℕ) →
+    Front out (withPosition (n - w) (n - w) (0 ∷ [])) mid count → near ≡ nearSide s → far ≡ farSide s →
+    Front mid (withSides near far (n - w) w (rectsOf t) (take count mid)) after r → Front out (candidates s (rectsOf t) n w) after r
 unfolding candidates
-candidates-listed s axis n w t out mid after near far count r f a b g =
+candidates-listed s n w t out mid after near far count r f a b g =
     rw (← a, ← b)
     (front-chain out (withPosition (n - w) (n - w) (0 ∷ [])) mid _ after count r f (rw (front-take out _ mid count f) at g)
     (sides-no-shorter near far (n - w) w (rectsOf t) _))

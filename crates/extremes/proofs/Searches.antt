@@ -3,7 +3,7 @@ use Prim.Native.Nat.{ℕ, _-_, _≤_, _<_}
 use mathlib.Core.Path.{_≡_, refl, sym, _∙_}
 use mathlib.Core.Bool.{Bool, true, false}
 use mathlib.Core.Logic.{_⊎_, inl, inr}
-use mathlib.Core.List.{List, List·Memᴰ}
+use mathlib.Core.List.{List, List·Memᴰ·head}
 use native.Mathlib.Omega.{arith}
 use lib.ListN.{take}
 use borrow.Author.Tests.{ltb-false}
@@ -16,10 +16,12 @@ use Rattle.buffers.specs.Written.{Front}
 use Rattle.geometry.specs.Extreme.{better, NoBetter, Bounded, spotAt}
 use Rattle.geometry.proofs.Extremes.{NoLater, not-better, better-neither, IsBest, Start, start-at, start-in, rows-best-of-all, best-of-fewer, best-same, best-unique, Dispensable}
 use Rattle.extremes.specs.Exact.{windowArea, positions, Position, extreme, exactRun}
-use Rattle.extremes.specs.Search.{candidates, leadingInRows, searched}
+use Rattle.extremes.specs.Listing.{candidates}
+use Rattle.extremes.specs.Search.{leadingInRows, triedRow, searched}
 use Rattle.buffers.proofs.Fronts.{front-take}
 use Rattle.extremes.proofs.Candidates.{Better, FirstBest, at-start, candidate-across, candidate-up}
 use Rattle.extremes.proofs.Tried.{candidates-complete, candidates-within}
+use Rattle.extremes.proofs.Reached.{tried-complete, tried-within}
 use Rattle.extremes.proofs.Leading.{Listed, leading-best}
 
 -- what the tests say
@@ -74,16 +76,22 @@ module _ (s : Sense) (rs : List Rect) (n w : ℕ) (e : Spot) (h : IsBest s (wind
       later y l (inl k) = omega arith
       later y l (inr k) = omega (arith, k .0)
 
-  -- so it is among the candidates
-  extreme-listed : Disjoint rs → Listed (candidates s 0 rs n w) (candidates s 1 rs n w) (e .x) (e .y)
-  extreme-listed d = (
-    candidates-complete s 0 rs n w (e .x) x-in (candidate-across s rs w (n - w) (e .x) (e .y) d row-first),
-    candidates-complete s 1 rs n w (e .y) y-in (candidate-up s rs w (n - w) (e .x) (e .y) d column-first),
+-- so it is among the candidates, and every other position is dispensable
+module _ (s : Sense) (t : List ℕ) (n w : ℕ) where
+  abbrev rs : List Rect
+  rs = rectsOf t
+
+  abbrev Tried : (x y : ℕ) → Type 0
+  Tried = Listed (triedRow s w (n - w) t) (candidates s rs n w)
+
+  extreme-listed : Disjoint rs → (e : Spot) → IsBest s (windowArea rs w) (Position n w) e → Tried (e .x) (e .y)
+  extreme-listed d e h = (
+    tried-complete t n w (e .y) s (e .x) (x-in s rs n w e h) (candidate-across s rs w (n - w) (e .x) (e .y) d (row-first s rs n w e h)),
+    candidates-complete s rs n w _ (e .y) (y-in s rs n w e h) (candidate-up s rs w (n - w) (e .x) (e .y) d (column-first s rs n w e h)),
   )
 
-  -- and every other position is dispensable
-  others : Disjoint rs → (x y : ℕ) → Position n w x y → Dispensable s (windowArea rs w) (Listed (candidates s 0 rs n w) (candidates s 1 rs n w)) x y
-  others d x y p = (e .x, e .y, extreme-listed d, go (better s (windowArea rs w (e .x) (e .y)) (windowArea rs w x y)) refl)
+  others : Disjoint rs → (e : Spot) → IsBest s (windowArea rs w) (Position n w) e → (x y : ℕ) → Position n w x y → Dispensable s (windowArea rs w) Tried x y
+  others d e h x y p = (e .x, e .y, extreme-listed d e h, go (better s (windowArea rs w (e .x) (e .y)) (windowArea rs w x y)) refl)
     where
       go : (t : Bool) → better s (windowArea rs w (e .x) (e .y)) (windowArea rs w x y) ≡ t →
           (better s (windowArea rs w (e .x) (e .y)) (windowArea rs w x y) ≡ true)
@@ -93,29 +101,26 @@ module _ (s : Sense) (rs : List Rect) (n w : ℕ) (e : Spot) (h : IsBest s (wind
           let same = better-neither s (windowArea rs w (e .x) (e .y)) (windowArea rs w x y) q (rw (h .area-is) at (h .none-better x y p)) in
           inr (same, h .first x y p (sym same ∙ sym (h .area-is)))
 
--- for disjoint rectangles the search among the candidates is the extreme over all positions
-pub searched-is-extreme : (s : Sense) (rs : List Rect) (n w : ℕ) → Disjoint rs → searched s rs n w ≡ extreme s rs n w
-unfolding searched
-searched-is-extreme s rs n w d =
-    best-unique s (windowArea rs w) (Position n w) _ _
-    (best-of-fewer s (windowArea rs w) (Listed (candidates s 0 rs n w) (candidates s 1 rs n w)) (Position n w) _ inside
-    (others s rs n w (extreme s rs n w) (extreme-best s rs n w) d) (leading-best s (windowArea rs w) _ _ 0 0 (start 0, start 1)))
-    (extreme-best s rs n w)
-  where
-    inside : (x y : ℕ) → Listed (candidates s 0 rs n w) (candidates s 1 rs n w) x y → Position n w x y
-    inside x y m = position n w x y (candidates-within s 0 rs n w x (m .0)) (candidates-within s 1 rs n w y (m .1))
-
-    start : (axis : ℕ) → List·Memᴰ 0 (candidates s axis rs n w)
-    start axis = candidates-complete s axis rs n w 0 (omega arith) (at-start refl)
+  -- for disjoint rectangles the search among the candidates is the extreme over all positions
+  pub searched-is-extreme : Disjoint rs → searched s t n w ≡ extreme s rs n w
+  unfolding searched
+  searched-is-extreme d =
+      best-unique s (windowArea rs w) (Position n w) _ _
+      (best-of-fewer s (windowArea rs w) Tried (Position n w) _ inside (others d (extreme s rs n w) (extreme-best s rs n w))
+      (leading-best s (windowArea rs w) _ _ 0 0 (List·Memᴰ·head refl, candidates-complete s rs n w (λ r. 0) 0 (omega arith) (at-start refl))))
+      (extreme-best s rs n w)
+    where
+      inside : (x y : ℕ) → Tried x y → Position n w x y
+      inside x y m = position n w x y (tried-within t n w y s x (m .0)) (candidates-within s rs n w y (m .1))
 
 -- ---- what the code returns
 
-pub extreme-found : (s : Sense) (t : List ℕ) (n w : ℕ) (xb xs yb ys : List ℕ) (j k : ℕ) (r : Spot) → Drawn t →
-    Front xb (candidates s 0 (rectsOf t) n w) xs j → Front yb (candidates s 1 (rectsOf t) n w) ys k →
-    r ≡ leadingInRows s (windowArea (rectsOf t) w) (take j xs) (take k ys) (spotAt (windowArea (rectsOf t) w) 0 0) → r ≡ extreme s (rectsOf t) n w
+pub extreme-found : (s : Sense) (t : List ℕ) (n w : ℕ) (before ys : List ℕ) (k : ℕ) (r : Spot) → Drawn t →
+    Front before (candidates s (rectsOf t) n w) ys k →
+    r ≡ leadingInRows s (windowArea (rectsOf t) w) (triedRow s w (n - w) t) (take k ys) (spotAt (windowArea (rectsOf t) w) 0 0) →
+    r ≡ extreme s (rectsOf t) n w
 unfolding searched
-extreme-found s t n w xb xs yb ys j k r d f g e =
-    rw (front-take xb _ xs j f, front-take yb _ ys k g) at e ∙ searched-is-extreme s (rectsOf t) n w (d .apart)
+extreme-found s t n w before ys k r d f e = rw (front-take before _ ys k f) at e ∙ searched-is-extreme s t n w (d .apart)
 
 pub both-found : (rs : List Rect) (n w : ℕ) (g l : Spot) → g ≡ extreme Greatest rs n w → l ≡ extreme Least rs n w →
     record { greatest = g; least = l } ≡ exactRun rs n w

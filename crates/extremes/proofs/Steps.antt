@@ -1,8 +1,8 @@
--- What the code of the search finds on each way, and what its loops have passed and what is left.
+-- Which of two windows goes first, by what the code finds on each way, and what loops over positions have passed and what is left.
 use Prim.Native.Nat.{ℕ, _+_, _≤_, _<_}
 use mathlib.Core.Path.{_≡_, refl, sym, ap, _∙_}
 use mathlib.Core.Bool.{Bool, true, false}
-use mathlib.Core.List.{List, [], _∷_}
+use mathlib.Core.List.{List, [], _∷_, _++_}
 use native.Mathlib.Numerals.{add-one}
 use lib.Dec.{ltb}
 use lib.ListN.{length, getD, take, drop, drop-of-length-le}
@@ -50,10 +50,6 @@ module _ (s : Sense) (new old : Spot) (r : Bool) (e : r ≡ leads s new old) whe
   pub leading-old : r ≡ false → old ≡ leading s old new
   leading-old h = ap {B = Spot} (λ (t : Bool). elim t [ true ↦ new | false ↦ old ]) (sym h ∙ e)
 
-pub window-tried : (s : Sense) (b r : Spot) (a v x y : ℕ) → a ≡ v → r ≡ leading s b (record { area = a; x = x; y = y }) →
-    r ≡ leading s b (record { area = v; x = x; y = y })
-window-tried s b r a v x y e h = h ∙ ap (λ (k : ℕ). leading s b (record { area = k; x = x; y = y })) e
-
 -- ---- a loop over positions
 
 module _ (step : ℕ → Spot → Spot) (l : List ℕ) (start b : Spot) (i : ℕ) (whole : passed step (drop i l) b ≡ passed step l start) where
@@ -70,25 +66,15 @@ unfolding passed
 passed-cong step other [] b h = refl
 passed-cong step other (p ∷ l) b h = passed-cong step other l (step p b) h ∙ ap (passed other l) (h p b)
 
--- ---- positions and strips are small
+pub passed-append : (step : ℕ → Spot → Spot) (l m : List ℕ) (b : Spot) → passed step (l ++ m) b ≡ passed step m (passed step l b)
+unfolding passed
+passed-append step [] m b = refl
+passed-append step (p ∷ l) m b = passed-append step l m (step p b)
 
 pub small-at : (l : List ℕ) (i : ℕ) → SmallList l → getD l i 0 ≤ widest
 small-at l i h = h .small i
 
--- the strip at the front of a buffer
-pub strip-taken : (t before after : List ℕ) (y1 y2 r : ℕ) → Drawn t → Front before (stripOf (rectsOf t) y1 y2) after r → StripSmall (take r after)
-strip-taken t before after y1 y2 r d f = rw (front-take before _ after r f) (strip-small t y1 y2 d)
-
-pub strip-row : (t before after : List ℕ) (r : ℕ) (s : Sense) (w : ℕ) (xs : List ℕ) (y : ℕ) (b c : Spot) → Drawn t →
-    Front before (stripOf (rectsOf t) y (y + w)) after r → c ≡ leadingInRow s (λ x y. stripSum (take r after) x (x + w)) xs y b →
-    c ≡ leadingInRow s (windowArea (rectsOf t) w) xs y b
-strip-row t before after r s w xs y b c d f e =
-    e
-    ∙ passed-cong _ _ xs b
-    (λ x b. ap (λ (a : ℕ). leading s b (record { area = a; x = x; y = y }))
-    (ap (λ (l : List ℕ). stripSum l x (x + w)) (front-take before _ after r f) ∙ strip-is-area (rectsOf t) x y (x + w) (y + w) (d .apart)))
-
 -- the search begins with the window at the origin
-pub rows-start : (f : ℕ → ℕ → ℕ) (s : Sense) (xs ys : List ℕ) (b : Spot) → b ≡ spotAt f 0 0 →
+pub rows-start : (f : ℕ → ℕ → ℕ) (s : Sense) (xs : ℕ → List ℕ) (ys : List ℕ) (b : Spot) → b ≡ spotAt f 0 0 →
     leadingInRows s f xs ys b ≡ leadingInRows s f xs ys (spotAt f 0 0)
 rows-start f s xs ys b e = ap (leadingInRows s f xs ys) e

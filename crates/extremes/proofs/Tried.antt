@@ -13,7 +13,7 @@ use Rattle.geometry.specs.Sizes.{widest, SmallList}
 use Rattle.geometry.specs.declared.Rect.{Rect}
 use Rattle.geometry.specs.declared.Sense.{Sense}
 use Rattle.buffers.specs.Written.{Front}
-use Rattle.extremes.specs.Search.{side, nearSide, farSide, listed, withPosition, withEnd, withSides, candidates}
+use Rattle.extremes.specs.Listing.{side, nearSide, farSide, listed, withPosition, withEnd, withSides, candidates}
 use Rattle.buffers.proofs.Fronts.{front-take}
 use Rattle.extremes.proofs.Candidates.{Meets, low-edge, high-edge, further, Candidate, at-start, at-end, at-side}
 
@@ -91,12 +91,12 @@ module _ (near far last w : ℕ) where
   sides-kept [] l m = m
   sides-kept (r ∷ rs) l m = sides-kept rs _ (end-kept last w (side far r) _ (position-kept last (side near r) l m))
 
-  sides-met : (rs : List Rect) (l : List ℕ) (p : ℕ) → p ≤ last → Meets (side near) (side far) w p rs → List·Memᴰ p (withSides near far last w rs l)
+  sides-met : (weight : Rect → ℕ) (rs : List Rect) (l : List ℕ) (p : ℕ) → p ≤ last → Meets (side near) (side far) weight w p rs → List·Memᴰ p (withSides near far last w rs l)
   unfolding withSides
-  sides-met (r ∷ rs) l p h (low-edge e) =
+  sides-met weight (r ∷ rs) l p h (low-edge e z) =
       sides-kept rs _ (end-kept last w (side far r) _ (Memᴰ·cast (sym e) (position-added last (side near r) l (omega arith))))
-  sides-met (r ∷ rs) l p h (high-edge e) = sides-kept rs _ (end-added last w (side far r) _ p e h)
-  sides-met (r ∷ rs) l p h (further m) = sides-met rs _ p h m
+  sides-met weight (r ∷ rs) l p h (high-edge e z) = sides-kept rs _ (end-added last w (side far r) _ p e h)
+  sides-met weight (r ∷ rs) l p h (further m) = sides-met weight rs _ p h m
 
   sides-within : (rs : List Rect) (l : List ℕ) → ((q : ℕ) → List·Memᴰ q l → q ≤ last) → (q : ℕ) → List·Memᴰ q (withSides near far last w rs l) → q ≤ last
   unfolding withSides
@@ -108,23 +108,23 @@ at-most last [] all i = omega arith
 at-most last (p ∷ l) all zero = all p (List·Memᴰ·head refl)
 at-most last (p ∷ l) all (suc i) = at-most last l (λ q m. all q (List·Memᴰ·tail m)) i
 
-module _ (s : Sense) (axis : ℕ) (rs : List Rect) (n w : ℕ) where
-  pub candidates-complete : (p : ℕ) → p ≤ n - w → Candidate (side (nearSide s axis)) (side (farSide s axis)) w (n - w) p rs →
-      List·Memᴰ p (candidates s axis rs n w)
+module _ (s : Sense) (rs : List Rect) (n w : ℕ) where
+  pub candidates-complete : (weight : Rect → ℕ) (p : ℕ) → p ≤ n - w → Candidate (side (nearSide s)) (side (farSide s)) weight w (n - w) p rs →
+      List·Memᴰ p (candidates s rs n w)
   unfolding candidates
-  candidates-complete p h (at-start e) =
-      sides-kept (nearSide s axis) (farSide s axis) (n - w) w rs _ (position-kept (n - w) (n - w) (0 ∷ []) (List·Memᴰ·head e))
-  candidates-complete p h (at-end e) =
-      sides-kept (nearSide s axis) (farSide s axis) (n - w) w rs _ (Memᴰ·cast e (position-added (n - w) (n - w) (0 ∷ []) (omega arith)))
-  candidates-complete p h (at-side m) = sides-met (nearSide s axis) (farSide s axis) (n - w) w rs _ p h m
+  candidates-complete weight p h (at-start e) =
+      sides-kept (nearSide s) (farSide s) (n - w) w rs _ (position-kept (n - w) (n - w) (0 ∷ []) (List·Memᴰ·head e))
+  candidates-complete weight p h (at-end e) =
+      sides-kept (nearSide s) (farSide s) (n - w) w rs _ (Memᴰ·cast e (position-added (n - w) (n - w) (0 ∷ []) (omega arith)))
+  candidates-complete weight p h (at-side m) = sides-met (nearSide s) (farSide s) (n - w) w weight rs _ p h m
 
-  pub candidates-within : (p : ℕ) → List·Memᴰ p (candidates s axis rs n w) → p ≤ n - w
+  pub candidates-within : (p : ℕ) → List·Memᴰ p (candidates s rs n w) → p ≤ n - w
   unfolding candidates
   candidates-within =
-      sides-within (nearSide s axis) (farSide s axis) (n - w) w rs _
+      sides-within (nearSide s) (farSide s) (n - w) w rs _
       (position-within (n - w) (n - w) (0 ∷ []) (λ q m. omega (arith, List·Memᴰ·eq-of-singleton m)))
 
   -- so 64 bits hold a listed position with the window's side added
-  pub candidates-small : (before after : List ℕ) (r : ℕ) → n ≤ widest → Front before (candidates s axis rs n w) after r → SmallList (take r after)
+  pub candidates-small : (before after : List ℕ) (r : ℕ) → n ≤ widest → Front before (candidates s rs n w) after r → SmallList (take r after)
   candidates-small before after r h f =
       rw (front-take before _ after r f) (record { small = λ i. le-trans (at-most (n - w) _ candidates-within i) (omega arith) })

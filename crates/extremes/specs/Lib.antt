@@ -1,3 +1,4 @@
 pub mod Exact
+pub mod Listing
 pub mod Search
 pub mod Cases

@@ -1,62 +1,25 @@
 -- What the code of the exact run does in place of trying every position. A buyer need not read it: proofs/Searches.antt shows that
 -- `searched` is `extreme`.
-use Prim.Native.Nat.{ℕ, zero, suc, _+_, _-_, _*_, _≤_, _<_}
+use Prim.Native.Nat.{ℕ, _+_, _-_, _≤_}
+use mathlib.Core.Path.{_≡_}
 use mathlib.Core.Bool.{Bool, true, false, _&&_, _||_}
 use mathlib.Core.List.{List, [], _∷_, _++_}
 use lib.Dec.{leb, ltb, eqb}
-use lib.ListN.{length}
-use Rattle.geometry.specs.declared.Rect.{Rect}
 use Rattle.geometry.specs.declared.Spot.{Spot}
 use Rattle.geometry.specs.declared.Sense.{Sense}
 use Rattle.geometry.specs.declared.Sense.the-variants.{Greatest, Least}
 use Rattle.geometry.specs.Extreme.{better, spotAt}
-use Rattle.geometry.specs.Sizes.{widest, SmallList}
-use Rattle.geometry.specs.Layout.{Drawn}
-use Rattle.extremes.specs.declared.Edges.{Edges}
+use Rattle.geometry.specs.Sizes.{widest}
+use Rattle.geometry.specs.Layout.{rectsOf}
+use Rattle.sweep.specs.declared.Side.the-variants.{Low, High}
+use Rattle.sweep.specs.Strips.{stripSides, stripSum, Swept}
+use Rattle.sweep.specs.Cursors.{frameAt}
+use Rattle.extremes.specs.declared.searching.Row.{Row}
+use Rattle.extremes.specs.declared.searching.Tried.{Tried}
 use Rattle.extremes.specs.Exact.{windowArea}
+use Rattle.extremes.specs.Listing.{candidates}
 
--- ---- the positions of an axis that are tried
-
--- a side of a rectangle by its place in the table: X1 Y1 X2 Y2
-abbrev pub side : ℕ → Rect → ℕ
-side zero r = r .x1
-side (suc zero) r = r .y1
-side (suc (suc zero)) r = r .x2
-side (suc (suc (suc k))) r = r .y2
-
--- the side that the window's low edge meets at a first extreme, on the axis 0 (x) or 1 (y)
-abbrev pub nearSide : Sense → ℕ → ℕ
-nearSide Greatest axis = axis
-nearSide Least axis = axis + 2
-
--- and the side that its high edge meets
-abbrev pub farSide : Sense → ℕ → ℕ
-farSide Greatest axis = axis + 2
-farSide Least axis = axis
-
--- whether a position is in a list
-unfoldable pub listed : ℕ → List ℕ → Bool
-listed p [] = false
-listed p (q ∷ l) = eqb q p || listed p l
-
--- a list with the position p, if p is no larger than the last one; each position stands once
-unfoldable pub withPosition : (last p : ℕ) → List ℕ → List ℕ
-withPosition last p l = elim (leb p last) [ true ↦ elim (listed p l) [ true ↦ l | false ↦ l ++ (p ∷ []) ] | false ↦ l ]
-
--- a list with the position whose window ends at e
-unfoldable pub withEnd : (last w e : ℕ) → List ℕ → List ℕ
-withEnd last w e l = elim (leb w e) [ true ↦ withPosition last (e - w) l | false ↦ l ]
-
--- a list with the positions at which the window meets a rectangle
-unfoldable pub withSides : (near far last w : ℕ) → List Rect → List ℕ → List ℕ
-withSides near far last w [] l = l
-withSides near far last w (r ∷ rs) l = withSides near far last w rs (withEnd last w (side far r) (withPosition last (side near r) l))
-
--- the positions that are tried on an axis: 0, the last one, and where the window meets a rectangle
-unfoldable pub candidates : Sense → (axis : ℕ) → List Rect → (n w : ℕ) → List ℕ
-candidates s axis rs n w = withSides (nearSide s axis) (farSide s axis) (n - w) w rs (withPosition (n - w) (n - w) (0 ∷ []))
-
--- ---- the search among them, in any order
+-- ---- the search among listed positions, in any order
 
 -- whether a window has a smaller y, or the same y and a smaller x
 abbrev pub earlier : Spot → Spot → Bool
@@ -79,45 +42,78 @@ passed step (p ∷ l) b = passed step l (step p b)
 abbrev pub leadingInRow : Sense → (ℕ → ℕ → ℕ) → List ℕ → (y : ℕ) → Spot → Spot
 leadingInRow s f xs y b = passed (λ x b. leading s b (spotAt f x y)) xs b
 
--- the leading one of the windows at (x, y), x and y each in a list, where b stood before
-abbrev pub leadingInRows : Sense → (ℕ → ℕ → ℕ) → (xs ys : List ℕ) → Spot → Spot
-leadingInRows s f xs ys b = passed (λ y b. leadingInRow s f xs y b) ys b
+-- the leading one of the windows at (x, y), y in a list and x in the list of the row y, where b stood before
+abbrev pub leadingInRows : Sense → (ℕ → ℕ → ℕ) → (xs : ℕ → List ℕ) → (ys : List ℕ) → Spot → Spot
+leadingInRows s f xs ys b = passed (λ y b. leadingInRow s f (xs y) y b) ys b
+
+-- ---- the positions that are tried in a row
+
+-- the window whose edge meets a side is a position: at the side less 0, if it is the low edge, or less w
+abbrev pub isReached : (shift last side : ℕ) → Bool
+isReached shift last v = leb shift v && leb (v - shift) last
+
+-- the positions of the windows whose edges meet the sides of a list
+unfoldable pub positionsOf : (shift last : ℕ) → List ℕ → List ℕ
+positionsOf shift last [] = []
+positionsOf shift last (v ∷ []) = []
+positionsOf shift last (v ∷ h ∷ s) = elim (isReached shift last v) [ true ↦ (v - shift) ∷ positionsOf shift last s | false ↦ positionsOf shift last s ]
+
+-- the sides that the window's low and high edge meet at a first extreme
+abbrev pub nearOf : Sense → (lows highs : List ℕ) → List ℕ
+nearOf Greatest lows highs = lows
+nearOf Least lows highs = highs
+
+abbrev pub farOf : Sense → (lows highs : List ℕ) → List ℕ
+farOf Greatest lows highs = highs
+farOf Least lows highs = lows
+
+-- the positions that are tried in a row: 0, the last one, and where an edge of the window meets a side of its strip
+abbrev pub triedIn : Sense → (w last : ℕ) → (lows highs : List ℕ) → List ℕ
+triedIn s w last lows highs = (0 ∷ last ∷ []) ++ (positionsOf 0 last (nearOf s lows highs) ++ positionsOf w last (farOf s lows highs))
+
+abbrev pub triedRow : Sense → (w last : ℕ) → (rects : List ℕ) → (y : ℕ) → List ℕ
+triedRow s w last rects y = triedIn s w last (stripSides rects Low y (y + w)) (stripSides rects High y (y + w))
 
 -- the search for an extreme: the window at (0, 0), then those at the candidates
-unfoldable pub searched : Sense → List Rect → (n w : ℕ) → Spot
-searched s rs n w =
-    leadingInRows s (windowArea rs w) (candidates s 0 rs n w) (candidates s 1 rs n w) (spotAt (windowArea rs w) 0 0)
+unfoldable pub searched : Sense → (rects : List ℕ) → (n w : ℕ) → Spot
+searched s rects n w =
+    leadingInRows s (windowArea (rectsOf rects) w) (triedRow s w (n - w) rects) (candidates s (rectsOf rects) n w) (spotAt (windowArea (rectsOf rects) w) 0 0)
+
+-- ---- one window
+
+-- the area of the window at (x, y) in the strip of the row y
+abbrev pub stripArea : (lows highs : List ℕ) → (w x y : ℕ) → ℕ
+stripArea lows highs w x y = stripSum lows highs x (x + w)
+
+-- after the window at x was tried
+abbrev pub triedAt : (lows highs : List ℕ) → Row → (x : ℕ) → Spot → Tried
+triedAt lows highs row x best =
+    record { frame = frameAt lows highs x (x + row .w); best = leading (row .sense) best (spotAt (stripArea lows highs (row .w)) x (row .y)) }
+
+-- after the window whose edge meets a side was tried
+abbrev pub triedBy : (lows highs : List ℕ) → Row → (side shift : ℕ) → Tried → Tried
+triedBy lows highs row v shift before =
+    elim (isReached shift (row .last) v) [ true ↦ triedAt lows highs row (v - shift) (before .best) | false ↦ before ]
 
 -- ---- what the code asks, so that 64 bits and its tables hold what it forms
 
--- a layout of side n and a window of side w that fits it
-pub record Searchable (rects : List ℕ) (n w : ℕ) : Type 0 where
-  pub drawn : Drawn rects
+-- a layout of side n, with the order of its sides, and a window of side w that fits it
+pub record Searchable (rects order : List ℕ) (n w : ℕ) : Type 0 where
+  pub swept : Swept rects order
   pub fits : w ≤ n
   pub small : n ≤ widest
 
--- a window of side w at the column x; at the listed columns of a row; at the listed columns and rows
-pub record SmallWindow (x w : ℕ) : Type 0 where
-  pub left : x ≤ widest
-  pub side : w ≤ widest
+-- the windows of a row end where coordinates are small
+pub record SmallRow (row : Row) : Type 0 where
+  pub right : row .last + row .w ≤ widest
+  pub low : row .y ≤ widest
 
-pub record SmallRow (xs : List ℕ) (y w : ℕ) : Type 0 where
-  pub columns : SmallList xs
-  pub low : y ≤ widest
-  pub side : w ≤ widest
+-- a box in the strip, no wider than a window
+pub record Narrow (lows highs : List ℕ) (row : Row) (t : Tried) : Type 0 where
+  pub is : t .frame ≡ frameAt lows highs (t .frame .left) (t .frame .right)
+  pub narrow : t .frame .right ≤ t .frame .left + row .w
 
-pub record SmallRows (xs ys : List ℕ) (w : ℕ) : Type 0 where
-  pub columns : SmallList xs
-  pub rows : SmallList ys
-  pub side : w ≤ widest
-
--- the axis 0 (x) or 1 (y), along which the window moves
-pub record OnAxis (axis n w : ℕ) : Type 0 where
-  pub is-axis : axis < 2
-  pub fits : w ≤ n
-
--- the sides are two of a rectangle's four, and a list of `count` positions at the front of a buffer has room for two more for each rectangle
-pub record Listable (rects : List ℕ) (edges : Edges) (out : List ℕ) (count : ℕ) : Type 0 where
-  pub near : edges .near < 4
-  pub far : edges .far < 4
-  pub room : 2 * count + length rects ≤ 2 * length out
+-- the window whose edge meets a side is not left of the one that was tried before
+pub record Reaches (lows highs : List ℕ) (row : Row) (side shift : ℕ) (before : Tried) : Type 0 where
+  pub box : Narrow lows highs row before
+  pub earlier : before .frame .left ≤ side - shift

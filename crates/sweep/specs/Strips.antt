@@ -2,14 +2,20 @@
 -- need not read it, since no contract of the unit's public functions names it: for disjoint rectangles `stripSum` of a strip equals `coveredArea`
 -- (proofs/Strips.antt).
 use Prim.Native.Nat.{ℕ, _+_, _-_, _*_, _≤_}
+use mathlib.Core.Path.{_≡_}
 use mathlib.Core.Bool.{true, false}
 use mathlib.Core.List.{List, [], _∷_, _++_}
 use lib.Dec.{ltb}
 use lib.ListN.{length, getD}
 use Rattle.geometry.specs.Sizes.{widest, mostRects}
+use Rattle.geometry.specs.Layout.{Drawn}
 use Rattle.geometry.specs.Overlaps.{common}
 use Rattle.sweep.specs.declared.Side.{Side}
-use Rattle.sweep.specs.Order.{columnOn, placesBy}
+use Rattle.sweep.specs.Order.{columnOn, placesBy, sideOrder}
+
+-- the numbers of so many sides, as `STRIP_ROOM` in src/
+abbrev pub stripRoom : ℕ
+stripRoom = 2 * mostRects
 
 -- a side, if it has any rows
 abbrev pub sidePart : (column rows : ℕ) → List ℕ
@@ -50,7 +56,7 @@ Rising b (v ∷ h ∷ s) = (b ≤ v) × Rising v s
 
 -- what a sweep asks of a list of sides: at most 1,024 in rising order, and no number past 2^20
 pub record Sides (s : List ℕ) : Type 0 where
-  pub few : length s ≤ 2 * mostRects
+  pub few : length s ≤ stripRoom
   pub small : (i : ℕ) → getD s i 0 ≤ widest
   pub rising : Rising 0 s
 
@@ -59,3 +65,8 @@ pub record Strip (lows highs : List ℕ) : Type 0 where
   pub low : Sides lows
   pub high : Sides highs
   pub grows : (x1 x2 : ℕ) → x1 ≤ x2 → ramps lows x1 + ramps highs x2 ≤ ramps lows x2 + ramps highs x1
+
+-- and of a job: rectangles, and the order of their sides
+pub record Swept (rects order : List ℕ) : Type 0 where
+  pub drawn : Drawn rects
+  pub ordered : order ≡ sideOrder rects

@@ -1,54 +1,49 @@
--- `extremes::search` meets its contract. Assumes nothing.
+-- `extremes::search` meets its contract. The loop's invariant: the rows that are left, searched from what stands, give the whole. The measure is what
+-- is left of the rows. Assumes nothing.
 use Prim.Native.Nat.{_-_, _≤_}
-use mathlib.Core.Path.{_≡_}
+use mathlib.Core.Path.{_≡_, refl, sym, _∙_}
+use native.Mathlib.Omega.{arith}
+use borrow.Author.Needs.{needs}
 use lib.ListN.{length, drop}
 use Rattle.geometry.specs.Layout.{rectsOf}
 use Rattle.geometry.specs.Extreme.{spotAt}
+use Rattle.sweep.specs.Strips.{stripRoom}
 use Rattle.extremes.specs.Exact.{windowArea}
-use Rattle.extremes.specs.Search.{leadingInRows}
+use Rattle.extremes.specs.Search.{leadingInRows, triedRow}
 use Rattle.extremes.proofs.Steps.{small-at, rows-start, passed-next, passed-end}
-use native.Mathlib.Omega.{arith}
-use borrow.Author.Needs.{needs}
 use Rattle.extremes.proofs.search.Statement.{statement}
 use Rattle.extremes.proofs.search.Tie as tie
 
 abbrev Inv-loop : tie.InvT-loop
-Inv-loop rects w sense xs ys best₀ i₀ best i =
-    (i ≤ length ys)
-    × (leadingInRows sense (windowArea (rectsOf rects) w) xs (drop i ys) best
-    ≡ leadingInRows sense (windowArea (rectsOf rects) w) xs ys (spotAt (windowArea (rectsOf rects) w) 0 0))
+Inv-loop rects order n w sense ys last lows₀ highs₀ best₀ i₀ lows highs best i =
+    (i ≤ length ys) × (length lows ≡ stripRoom) × (length highs ≡ stripRoom)
+    × (leadingInRows sense (windowArea (rectsOf rects) w) (triedRow sense w (n - w) rects) (drop i ys) best
+    ≡ leadingInRows sense (windowArea (rectsOf rects) w) (triedRow sense w (n - w) rects) ys (spotAt (windowArea (rectsOf rects) w) 0 0))
 
 abbrev μ-loop : tie.MeasureT-loop
-μ-loop rects w sense xs ys best₀ i₀ best i = length ys - i
-
-first-window-requires : tie.Need-first-window-requires Inv-loop μ-loop
-first-window-requires c κs = search needs
+μ-loop rects order n w sense ys last lows₀ highs₀ best₀ i₀ lows highs best i = length ys - i
 
 loop-holds : tie.Need-loop-holds Inv-loop μ-loop
 loop-holds c =
     let a = c .before .before .before .before .args in
-    (omega arith, rows-start (windowArea (rectsOf (a .rects .now)) (a .w)) (a .sense) (a .xs .now) (a .ys .now) _ (c .first-window .ensures))
-
-mul-search-row : tie.Need-mul-search-row Inv-loop μ-loop
-mul-search-row c = search needs
-
-shared-slice-read-search-row : tie.Need-shared-slice-read-search-row Inv-loop μ-loop
-shared-slice-read-search-row c = search needs
+    (omega arith, refl, refl, rows-start (windowArea (rectsOf (a .rects .now)) (a .w)) (a .sense) _ (a .ys .now) _ (c .first-window .ensures))
 
 search-row-requires : tie.Need-search-row-requires Inv-loop μ-loop
-search-row-requires c κs = search (small-at, needs)
-
-add-i : tie.Need-add-i Inv-loop μ-loop
-add-i c = search needs
-
-loop-less : tie.Need-loop-less Inv-loop μ-loop
-loop-less c = search needs
+search-row-requires c κs =
+    let s = c .before .before .before .before .before .before .before .before .before in
+    let at = c .before .before .before .before .loop in
+    (
+      s .pre .0 .swept,
+      (record { right = omega (arith, s .pre .0 .fits, s .pre .0 .small); low = small-at (s .args .ys .now) (at .i) (s .pre .1) },
+      (omega (arith, at .inv .1), omega (arith, at .inv .2))),
+    )
 
 loop-again : tie.Need-loop-again Inv-loop μ-loop
-loop-again c = (omega arith, search passed-next)
-
-returns : tie.Need-returns Inv-loop μ-loop
-returns c = search passed-end
+loop-again c =
+    let at = c .before .before .before .before .before .before .before .loop in
+    let more = c .before .before .before .before .before .before .loop-test .taken in
+    let row = c .before .before .search-row in
+    (omega arith, row .kept .1 .1 .1 .1 .0 ∙ at .inv .1, row .kept .1 .1 .1 .1 .1 .0 ∙ at .inv .2, passed-next _ _ _ _ _ (at .inv .3) _ more (row .ensures))
 
 pub search-spec : {M : Type 1} → statement M
 search-spec =
@@ -56,12 +51,15 @@ search-spec =
     (tie.spec
     Inv-loop
     μ-loop
-    first-window-requires
+    (λ c. search needs)
+    (λ c κs. search needs)
     loop-holds
-    mul-search-row
-    shared-slice-read-search-row
+    (λ c. search needs)
+    (λ c. search needs)
+    (λ c. sym (c .before .before .before .loop .inv .1))
+    (λ c. sym (c .before .before .before .before .loop .inv .2))
     search-row-requires
-    add-i
-    loop-less
+    (λ c. search needs)
+    (λ c. search needs)
     loop-again
-    returns)
+    (λ c. search passed-end))

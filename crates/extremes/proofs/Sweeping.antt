@@ -1,0 +1,214 @@
+-- The search along a row: what it leaves after each window, and that it tries the windows at the sides of the strip from left to right.
+use Prim.Native.Nat.{ℕ, suc, _+_, _-_, _*_, _/_, _≤_, _<_}
+use mathlib.Core.Path.{_≡_, refl, sym, ap, ap₂, _∙_, subst}
+use mathlib.Core.Bool.{Bool, true, false, _&&_}
+use mathlib.Core.List.{List, [], _∷_, _++_}
+use native.Mathlib.Numerals.{add-two}
+use native.Mathlib.Omega.{arith}
+use lib.Dec.{leb}
+use lib.ListN.{length, getD, drop, length-drop}
+use borrow.Author.Tests.{le-leb, lt-leb}
+use Rattle.geometry.specs.declared.Spot.{Spot}
+use Rattle.geometry.specs.declared.Sense.{Sense}
+use Rattle.geometry.specs.Sizes.{widest}
+use Rattle.geometry.specs.Layout.{rectsOf}
+use Rattle.geometry.specs.Extreme.{spotAt}
+use Rattle.sweep.specs.declared.Frame.{Frame}
+use Rattle.sweep.specs.Strips.{stripRoom, Rising, Sides, Strip, Swept}
+use Rattle.sweep.specs.Cursors.{frameAt, startFrame, Behind}
+use Rattle.sweep.proofs.Moving.{two-at, start-is}
+use Rattle.sweep.proofs.Covered.{StripOf}
+use Rattle.extremes.specs.declared.searching.Row.{Row}
+use Rattle.extremes.specs.declared.searching.Tried.{Tried}
+use Rattle.extremes.specs.Exact.{windowArea}
+use Rattle.extremes.specs.Search.{leading, passed, leadingInRow, stripArea, isReached, positionsOf, nearOf, farOf, triedIn, triedRow, triedAt, triedBy, Narrow, Reaches, SmallRow}
+use Rattle.extremes.proofs.Steps.{passed-cong, passed-append}
+use Rattle.extremes.proofs.Reached.{position-first, position-skipped, short-positions}
+
+-- ---- one window
+
+pub window-tried : (lows highs : List ℕ) (row : Row) (x : ℕ) (b r : Spot) (f : Frame) → f ≡ frameAt lows highs x (x + row .w) →
+    r ≡ leading (row .sense) b (record { area = f .area; x = x; y = row .y }) → _≡_ {A = Tried} (record { frame = f; best = r }) (triedAt lows highs row x b)
+window-tried lows highs row x b r f e h =
+    ap₂ {C = Tried} (λ (f : Frame) (r : Spot). record { frame = f; best = r }) e
+    (h ∙ ap (λ (f : Frame). leading (row .sense) b (record { area = f .area; x = x; y = row .y })) e)
+
+-- a box that is narrow may move to a window further right
+pub narrow-behind : (lows highs : List ℕ) (row : Row) (x : ℕ) (t : Tried) → Narrow lows highs row t → t .frame .left ≤ x → x ≤ row .last → SmallRow row →
+    Behind lows highs (t .frame) x (x + row .w)
+narrow-behind lows highs row x t z h k q =
+    record {
+      is = z .is;
+      left-earlier = h;
+      right-earlier = omega (arith, z .narrow);
+      upright = omega arith;
+      small = omega (arith, q .right);
+    }
+
+module _ (lows highs : List ℕ) (row : Row) (v shift : ℕ) (before : Tried) where
+  pub side-short : v < shift → before ≡ triedBy lows highs row v shift before
+  side-short h = rw (lt-leb shift v h, triedBy, isReached)
+
+  module _ (h : shift ≤ v) where
+    pub side-late : row .last < v - shift → before ≡ triedBy lows highs row v shift before
+    side-late k = rw (le-leb shift v h, lt-leb (v - shift) (row .last) k, triedBy, isReached)
+
+    pub side-tried : (r : Tried) → v - shift ≤ row .last → r ≡ triedAt lows highs row (v - shift) (before .best) → r ≡ triedBy lows highs row v shift before
+    side-tried r k e = rw (le-leb shift v h, le-leb (v - shift) (row .last) k, triedBy, isReached) e
+
+    pub side-behind : v - shift ≤ row .last → Reaches lows highs row v shift before → SmallRow row →
+        Behind lows highs (before .frame) (v - shift) (v - shift + row .w)
+    side-behind k z q = narrow-behind lows highs row (v - shift) before (z .box) (z .earlier) k q
+
+pub start-narrow : (lows highs : List ℕ) (row : Row) (b : Spot) (f : Frame) → f ≡ startFrame → Strip lows highs →
+    Narrow lows highs row (record { frame = f; best = b })
+start-narrow lows highs row b f e s =
+    subst (λ (f : Frame). Narrow lows highs row (record { frame = f; best = b })) (sym e) (record { is = start-is lows highs s; narrow = omega arith })
+
+-- the first window of a row, and one right of a window that was tried
+pub start-behind : (lows highs : List ℕ) (row : Row) (b : Spot) (f : Frame) → f ≡ startFrame → Strip lows highs → SmallRow row →
+    Behind lows highs f 0 (0 + row .w)
+start-behind lows highs row b f e s q =
+    narrow-behind lows highs row 0 (record { frame = f; best = b }) (start-narrow lows highs row b f e s) (omega (arith, ap (λ (f : Frame). f .left) e)) (omega arith) q
+
+pub tried-behind : (lows highs : List ℕ) (row : Row) (x p : ℕ) (b : Spot) (t : Tried) → t ≡ triedAt lows highs row x b → x ≤ p → p ≤ row .last → SmallRow row →
+    Behind lows highs (t .frame) p (p + row .w)
+tried-behind lows highs row x p b t e h k q =
+    subst (λ (t : Tried). Behind lows highs (t .frame) p (p + row .w)) (sym e)
+    (narrow-behind lows highs row p (triedAt lows highs row x b) (record { is = refl; narrow = omega arith }) h k q)
+
+-- ---- the sides of a list, from left to right
+
+module _ (lows highs : List ℕ) (row : Row) (sides : List ℕ) (shift : ℕ) (start : Spot) where
+  -- the windows that the positions of a list stand for
+  abbrev searched : List ℕ → Spot → Spot
+  searched xs b = leadingInRow (row .sense) (stripArea lows highs (row .w)) xs (row .y) b
+
+  -- the sides before place i were tried; those that are left rise from `reached` on, and the box is not right of where they reach
+  pub record Searching (t : Tried) (i : ℕ) : Type 0 where
+    pub whole : searched (positionsOf shift (row .last) (drop i sides)) (t .best) ≡ searched (positionsOf shift (row .last) sides) start
+    pub box : Narrow lows highs row t
+    pub reached : ℕ
+    pub rises : Rising reached (drop i sides)
+    pub behind : t .frame .left ≤ reached - shift
+    pub within : i ≤ length sides
+
+  pub searching-starts : (f : Frame) → f ≡ startFrame → Strip lows highs → Sides sides → Searching (record { frame = f; best = start }) 0
+  searching-starts f e s r =
+      record {
+        whole = refl;
+        box = start-narrow lows highs row start f e s;
+        reached = 0;
+        rises = r .rising;
+        behind = omega (arith, ap (λ (f : Frame). f .left) e);
+        within = omega arith;
+      }
+
+  module _ (t : Tried) (i : ℕ) (z : Searching t i) where
+    module _ (h : i + 1 < length sides) where
+      inside : suc i < length sides
+      inside = omega arith
+
+      here : (z .reached ≤ getD sides i 0) × Rising (getD sides i 0) (drop (suc (suc i)) sides)
+      unfolding Rising
+      here = subst (Rising (z .reached)) (two-at sides i inside) (z .rises)
+
+      left : searched (positionsOf shift (row .last) (getD sides i 0 ∷ getD sides (suc i) 0 ∷ drop (suc (suc i)) sides)) (t .best)
+          ≡ searched (positionsOf shift (row .last) sides) start
+      left =
+          subst (λ (l : List ℕ). searched (positionsOf shift (row .last) l) (t .best) ≡ searched (positionsOf shift (row .last) sides) start)
+          (two-at sides i inside) (z .whole)
+
+      pub searching-may : Reaches lows highs row (getD sides i 0) shift t
+      searching-may = record { box = z .box; earlier = omega (arith, z .behind, here .0) }
+
+      pub searching-next : (r : Tried) → r ≡ triedBy lows highs row (getD sides i 0) shift t → Searching r (i + 2)
+      unfolding passed
+      searching-next r e = rw (add-two, e) (go (isReached shift (row .last) (getD sides i 0)) refl)
+        where
+          v : ℕ
+          v = getD sides i 0
+
+          rest : List ℕ
+          rest = drop (suc (suc i)) sides
+
+          go : (b : Bool) → isReached shift (row .last) (getD sides i 0) ≡ b →
+              Searching (elim b [ true ↦ triedAt lows highs row (getD sides i 0 - shift) (t .best) | false ↦ t ]) (suc (suc i))
+          go true k =
+              record {
+                whole =
+                    subst (λ (l : List ℕ). searched l (t .best) ≡ searched (positionsOf shift (row .last) sides) start)
+                    (position-first shift (row .last) v (getD sides (suc i) 0) rest k) left;
+                box = record { is = refl; narrow = omega arith };
+                reached = v;
+                rises = here .1;
+                behind = omega arith;
+                within = inside;
+              }
+          go false k =
+              record {
+                whole =
+                    subst (λ (l : List ℕ). searched l (t .best) ≡ searched (positionsOf shift (row .last) sides) start)
+                    (position-skipped shift (row .last) v (getD sides (suc i) 0) rest k) left;
+                box = z .box;
+                reached = v;
+                rises = here .1;
+                behind = omega (arith, z .behind, here .0);
+                within = inside;
+              }
+
+    pub searching-fits : i + 1 ≤ length sides + 1
+    searching-fits = omega (arith, z .within)
+
+    pub searching-ends : length sides ≤ i + 1 → t .best ≡ searched (positionsOf shift (row .last) sides) start
+    unfolding passed
+    searching-ends h =
+        subst (λ (l : List ℕ). searched l (t .best) ≡ searched (positionsOf shift (row .last) sides) start)
+        (short-positions shift (row .last) (drop i sides) (omega (arith, length-drop i sides))) (z .whole)
+
+-- ---- the ends, then the sides
+
+module _ (lows highs : List ℕ) (row : Row) (best : Spot) where
+  abbrev along : List ℕ → Spot → Spot
+  along xs b = leadingInRow (row .sense) (stripArea lows highs (row .w)) xs (row .y) b
+
+  pub ends-tried : (first last : Tried) → first ≡ triedAt lows highs row 0 best → last ≡ triedAt lows highs row (row .last) (first .best) →
+      last .best ≡ along (0 ∷ row .last ∷ []) best
+  unfolding passed
+  ends-tried first last e f = ap (λ (t : Tried). t .best) (f ∙ ap (λ (t : Tried). triedAt lows highs row (row .last) (t .best)) e)
+
+  -- the sides that the sense asks for
+  pub sides-tried : (s : Sense) (ends first r : Spot) → row .sense ≡ s → ends ≡ along (0 ∷ row .last ∷ []) best →
+      first ≡ along (positionsOf 0 (row .last) (nearOf s lows highs)) ends → r ≡ along (positionsOf (row .w) (row .last) (farOf s lows highs)) first →
+      r ≡ along (triedIn (row .sense) (row .w) (row .last) lows highs) best
+  sides-tried s ends first r k e f g =
+      g ∙ ap (along far) (f ∙ ap (along near) e)
+      ∙ sym (passed-append step near far (along (0 ∷ row .last ∷ []) best))
+      ∙ sym (passed-append step (0 ∷ row .last ∷ []) (near ++ far) best)
+      ∙ ap (λ (s : Sense). along (triedIn s (row .w) (row .last) lows highs) best) (sym k)
+    where
+      step : ℕ → Spot → Spot
+      step x b = leading (row .sense) b (spotAt (stripArea lows highs (row .w)) x (row .y))
+
+      near : List ℕ
+      near = positionsOf 0 (row .last) (nearOf s lows highs)
+
+      far : List ℕ
+      far = positionsOf (row .w) (row .last) (farOf s lows highs)
+
+-- ---- the row by its strip
+
+pub row-by-strip : (t lows highs : List ℕ) (row : Row) (b r : Spot) → StripOf t (row .y) (row .y + row .w) lows highs →
+    r ≡ leadingInRow (row .sense) (stripArea lows highs (row .w)) (triedIn (row .sense) (row .w) (row .last) lows highs) (row .y) b →
+    r ≡ leadingInRow (row .sense) (windowArea (rectsOf t) (row .w)) (triedRow (row .sense) (row .w) (row .last) t (row .y)) (row .y) b
+row-by-strip t lows highs row b r s e =
+    e
+    ∙ passed-cong _ _ _ b
+    (λ x b. ap (λ (a : ℕ). leading (row .sense) b (record { area = a; x = x; y = row .y })) (s .areas x (x + row .w) (omega arith)))
+    ∙ ap₂
+    (λ (l h : List ℕ). leadingInRow (row .sense) (windowArea (rectsOf t) (row .w)) (triedIn (row .sense) (row .w) (row .last) l h) (row .y) b)
+    (s .low-is) (s .high-is)
+
+-- room for a strip of drawn rectangles
+pub strip-room : (t order : List ℕ) → Swept t order → 2 * (length t / 4) ≤ stripRoom
+strip-room t order z = omega (arith, z .drawn .few)
