@@ -5,7 +5,7 @@ pub mod Bracket
 pub mod RunEnd
 pub mod PassOver
 pub mod Numbers
-pub mod Passes
-pub mod Serving
+pub mod PassLoops
+pub mod Waiting
 pub mod Rows
 pub mod Zooming

@@ -34,7 +34,7 @@ use Rattle.zoom.proofs.Steps.{step-next, step-halves, step-positive}
 use Rattle.zoom.proofs.Starts.{start-stays}
 use Rattle.zoom.proofs.Bracket.{first-start, level-searches, level-at-start, level-best, level-small}
 use Rattle.zoom.proofs.PassOver.{far-from-best, harmless-first, harmless-next}
-use Rattle.zoom.proofs.Passes.{RowsSoFar, rows-named, far-rows-limit, far-rows-kept}
+use Rattle.zoom.proofs.PassLoops.{RowsSoFar, rows-named, far-rows-limit, far-rows-kept}
 
 -- ---- a level by its two passes
 

@@ -4,5 +4,6 @@ pub mod Grid
 pub mod Strips
 pub mod Passing
 pub mod Weighing
+pub mod Passes
 pub mod Next
 pub mod Cases

@@ -9,12 +9,11 @@ use Rattle.geometry.specs.declared.Rect.{Rect}
 use Rattle.geometry.specs.declared.Sense.{Sense}
 use Rattle.geometry.specs.Count.{one-if}
 use Rattle.geometry.specs.Extreme.{better, NoBetter}
-use Rattle.geometry.specs.Layout.{rectsOf, Drawn}
-use Rattle.geometry.specs.Strips.{StripSmall}
+use Rattle.geometry.specs.Layout.{rectsOf}
+use Rattle.sweep.specs.Strips.{Swept}
 use Rattle.zoom.specs.declared.Grid.{Grid}
 use Rattle.zoom.specs.Run.{startsOn, farArea}
 use Rattle.zoom.specs.Grid.{Sized}
-use Rattle.zoom.specs.Strips.{alongStrip}
 
 -- the flag of a start: 1 where its far area is no better than the level's best window, else 0
 abbrev pub flagOf : Sense → (best far : ℕ) → ℕ
@@ -46,21 +45,14 @@ abbrev pub Harmless : Sense → List Rect → (n w t : ℕ) → List ℕ → (st
 Harmless s rs n w t flags stride best = (j : ℕ) → j < startsOn n w t → HarmlessRow s rs n w t flags stride j best
 
 -- what a pass over all rows asks, where `best` is the area that stands
-pub record Passable (rects flags : List ℕ) (g : Grid) (best : ℕ) : Type 0 where
-  pub drawn : Drawn rects
+pub record Passable (rects order flags : List ℕ) (g : Grid) (best : ℕ) : Type 0 where
+  pub swept : Swept rects order
   pub sized : Sized g
   pub spare : Harmless (g .sense) (rectsOf rects) (g .n) (g .w) (g .t) flags (g .stride) best
 
 -- what a pass over row j asks
-pub record RowPassable (rects flags : List ℕ) (g : Grid) (j best : ℕ) : Type 0 where
-  pub drawn : Drawn rects
+pub record RowPassable (rects order flags : List ℕ) (g : Grid) (j best : ℕ) : Type 0 where
+  pub swept : Swept rects order
   pub sized : Sized g
   pub within : j < g .starts
   pub spare : HarmlessRow (g .sense) (rectsOf rects) (g .n) (g .w) (g .t) flags (g .stride) j best
-
--- what a pass over row j asks, where its strip is at hand; u is the step that its windows are bloated or shrunk by
-pub record StripPassable (strip flags : List ℕ) (g : Grid) (u j best : ℕ) : Type 0 where
-  pub strip-small : StripSmall strip
-  pub sized : Sized g
-  pub within : j < g .starts
-  pub spare : Spares (g .sense) (alongStrip (g .sense) strip (g .n) (g .w) u) (g .t) (g .starts) flags (g .stride) j best

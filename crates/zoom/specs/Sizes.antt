@@ -6,7 +6,8 @@ use mathlib.Core.List.{List}
 use Rattle.geometry.specs.declared.Spot.{Spot}
 use Rattle.geometry.specs.declared.Sense.{Sense}
 use Rattle.geometry.specs.Sizes.{widest, largest}
-use Rattle.geometry.specs.Layout.{rectsOf, Drawn}
+use Rattle.geometry.specs.Layout.{rectsOf}
+use Rattle.sweep.specs.Strips.{Swept}
 use Rattle.extremes.specs.Exact.{extreme}
 use Rattle.zoom.specs.declared.Asked.{Asked}
 use Rattle.zoom.specs.declared.Level.{Level}
@@ -19,9 +20,9 @@ flagsRoom = 512 * 512
 abbrev pub startsRoom : ℕ
 startsRoom = suc widest
 
--- where a window may end: 2^26, since the starts that a part of a strip serves may go past the layout by 31 steps
+-- where a bloated window may end before it is cut off at the layout's edge: a position, a side and a step
 abbrev pub spanRoom : ℕ
-spanRoom = 67108864
+spanRoom = 3 * widest
 
 -- the starts of a level, with a flag for each
 abbrev pub levelRoom : ℕ
@@ -35,9 +36,9 @@ keptRoom = 4398046511104
 abbrev pub mostAccuracy : ℕ
 mostAccuracy = 1000
 
--- a quick run: rectangles, what is asked, and the exact run's window
-pub record Runnable (s : Sense) (rects : List ℕ) (a : Asked) (m : Spot) : Type 0 where
-  pub drawn : Drawn rects
+-- a quick run: rectangles and the order of their sides, what is asked, and the exact run's window
+pub record Runnable (s : Sense) (rects order : List ℕ) (a : Asked) (m : Spot) : Type 0 where
+  pub swept : Swept rects order
   pub some-window : 1 ≤ a .window
   pub window-fits : a .window ≤ a .size
   pub small : a .size ≤ widest

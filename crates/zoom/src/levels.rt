@@ -12,9 +12,9 @@ use crate::End;
 use crate::Grid;
 use crate::Level;
 use crate::Next;
+use crate::Pass;
 use crate::Quick;
-use crate::bounds;
-use crate::standard;
+use crate::passes;
 use geometry::Sense;
 use geometry::Spot;
 
@@ -36,14 +36,32 @@ pub(crate) fn starts_on(n: u64, w: u64, t: u64) -> u64
 
 // One level, in two passes: its window must be known before a start is kept or
 // flagged.
-pub(crate) fn level(rects: &[u64], flags: &[u8], new: &mut [u8], g: Grid, before: Spot) -> Level
-    requires { ⌜ Passable (now rects) (now flags) g (before .area) ⌝ }
+pub(crate) fn level(
+    rects: &[u64],
+    order: &[usize],
+    flags: &[u8],
+    new: &mut [u8],
+    g: Grid,
+    before: Spot,
+) -> Level
+    requires { ⌜ Passable (now rects) (now order) (now flags) g (before .area) ⌝ }
     requires { ⌜ AtStart (rectsOf (now rects)) (g .n) (g .w) (g .t) before ⌝ }
     ensures { λ r. ⌜ r ≡ levelOf (g .sense) (rectsOf (now (rects .entry))) (g .n) (g .w) (g .t) before ⌝ }
     ensures { λ r. ⌜ now (new .exit) ≡ flagsInRows (g .sense) (r .named .area) (farOn g (now (rects .entry))) (g .t) (startsOn (g .n) (g .w) (g .t)) (startsOn (g .n) (g .w) (g .t)) (now (new .entry)) ⌝ }
 {
-    let best = standard::rows(rects, flags, g, before);
-    bounds::rows(rects, flags, new, g, best)
+    let none = Level {
+        named: before,
+        limit: 0,
+        kept: 0,
+    };
+    let first = passes::rows(Pass::Standard, rects, order, flags, new, g, none);
+    let named = first.named;
+    let start = Level {
+        named,
+        limit: named.area,
+        kept: 0,
+    };
+    passes::rows(Pass::Far, rects, order, flags, new, g, start)
 }
 
 fn low_end(sense: Sense, level: Level) -> u64

@@ -1,10 +1,8 @@
 // The quick run: a bracket of an extreme window area, level by level.
-mod bounds;
 mod flags;
 mod levels;
-mod parts;
+mod passes;
 mod spans;
-mod standard;
 
 ghost use mathlib.Core.Path.{_≡_};
 ghost use Rattle.geometry.specs.Layout.{rectsOf};
@@ -70,11 +68,12 @@ struct Grid {
     stride: u64,
 }
 
-// What the front of a buffer holds of a row's strip: `count` numbers, which
-// suffice for the starts before `until`.
-struct Part {
-    count: usize,
-    until: u64,
+// The two passes of a level: over the standard windows, which name its window, and
+// over the far ones, bloated or shrunk, which give its limit, the starts kept and
+// the flags for the next level.
+enum Pass {
+    Standard,
+    Far,
 }
 
 // What follows a level: the answer of a run that is over, or a deeper level.
@@ -86,8 +85,14 @@ enum Next {
 // The quick run for an extreme. The exact run's window m comes in, so that the
 // exact level does not search again. `old` has the flags of the level before,
 // none at first, and `new` gets those of this one.
-pub fn quick_run(sense: Sense, rects: &[u64], asked: Asked, m: Spot) -> Quick
-    requires { ⌜ Runnable sense (now rects) asked m ⌝ }
+pub fn quick_run(
+    sense: Sense,
+    rects: &[u64],
+    order: &[usize],
+    asked: Asked,
+    m: Spot,
+) -> Quick
+    requires { ⌜ Runnable sense (now rects) (now order) asked m ⌝ }
     ensures { λ r. ⌜ r ≡ quickRun sense (rectsOf (now (rects .entry))) (asked .size) (asked .window) (asked .accuracy) (asked .levels) ⌝ }
 {
     let n = asked.size;
@@ -109,7 +114,7 @@ pub fn quick_run(sense: Sense, rects: &[u64], asked: Asked, m: Spot) -> Quick
             starts,
             stride,
         };
-        let this = level(rects, &old, &mut new, g, before);
+        let this = level(rects, order, &old, &mut new, g, before);
         let next = next_after(sense, asked, z, j, this, m);
         if let Next::Ended(answer) = next {
             return answer;

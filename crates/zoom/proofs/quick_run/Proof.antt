@@ -10,22 +10,22 @@ use Rattle.zoom.proofs.quick_run.Statement.{statement}
 use Rattle.zoom.proofs.quick_run.Tie as tie
 
 abbrev Inv-loop : tie.InvT-loop
-Inv-loop sense rects asked m n w z old₀ new₀ before₀ stride₀ t₀ j₀ old new before stride t j =
+Inv-loop sense rects order asked m n w z old₀ new₀ before₀ stride₀ t₀ j₀ old new before stride t j =
     RunSoFar sense (rectsOf rects) (asked .size) (asked .window) (asked .accuracy) (asked .levels) z old new before stride t j
 
 abbrev μ-loop : tie.MeasureT-loop
-μ-loop sense rects asked m n w z old₀ new₀ before₀ stride₀ t₀ j₀ old new before stride t j = z - j
+μ-loop sense rects order asked m n w z old₀ new₀ before₀ stride₀ t₀ j₀ old new before stride t j = z - j
 
 loop-holds : tie.Need-loop-holds Inv-loop μ-loop
 loop-holds c =
-    let a = c .before .before .before .args in
+    let a = c .before .before .before .before .args in
     let z = c .before .last-level in
     run-begins (a .sense) (rectsOf (a .rects .now)) (a .asked .size) (a .asked .window) (a .asked .accuracy) (a .asked .levels) (z .result)
     (c .first-window .result) (z .ensures) (c .first-window .ensures)
 
 starts-on-requires : tie.Need-starts-on-requires Inv-loop μ-loop
 starts-on-requires c κs =
-    let p = c .before .before .before .before .pre in
+    let p = c .before .before .before .before .before .pre in
     record { small = p .small; inside = p .window-fits; some-step = run-step _ _ _ _ _ _ _ _ _ _ _ _ _ (c .loop .inv) (p .some-window) .0 }
 
 slice-aggregate-level : tie.Need-slice-aggregate-level Inv-loop μ-loop
@@ -36,11 +36,11 @@ slice-aggregate-level-2 c = sym (c .before .before .before .loop .inv .new-size)
 
 level-requires : tie.Need-level-requires Inv-loop μ-loop
 level-requires c κs =
-    let p = c .before .before .before .before .before .before .before .pre in
+    let p = c .before .before .before .before .before .before .before .before .pre in
     let so-far = c .before .before .before .loop .inv in
     let step = run-step _ _ _ _ _ _ _ _ _ _ _ _ _ so-far (p .some-window) in (
       record {
-        drawn = p .drawn;
+        swept = p .swept;
         sized = record { small = p .small; inside = p .window-fits; some-step = step .0; step-fits = step .1; count = c .before .before .starts-on .ensures; few-above = so-far .few };
         spare = so-far .spare;
       },
@@ -49,7 +49,7 @@ level-requires c κs =
 
 next-after-requires : tie.Need-next-after-requires Inv-loop μ-loop
 next-after-requires c κs =
-    let p = c .before .before .before .before .before .before .before .before .before .pre in
+    let p = c .before .before .before .before .before .before .before .before .before .before .pre in
     let so-far = c .before .before .before .before .before .loop .inv in
     let level = c .before .level in (
       record {
@@ -61,7 +61,7 @@ next-after-requires c κs =
 
 returns : tie.Need-returns Inv-loop μ-loop
 returns c =
-    let start = c .before .before .before .before .before .before .before .before .before .before .before .before .before in
+    let start = c .before .before .before .before .before .before .before .before .before .before .before .before .before .before in
     let so-far = c .before .before .before .before .before .before .before .before .before .loop .inv in
     let level = c .before .before .before .before .before .level in
     let next = c .before .before .before .next-after in
@@ -69,7 +69,7 @@ returns c =
     (start .pre .extreme-is) (next .ensures) (c .before .next .given .1)
 
 slice-aggregate-copy : tie.Need-slice-aggregate-copy Inv-loop μ-loop
-slice-aggregate-copy c = sym (c .before .before .before .before .before .level .kept .1 .1 .0 ∙ c .before .before .before .before .before .before .before .before .before .loop .inv .new-size)
+slice-aggregate-copy c = sym (c .before .before .before .before .before .level .kept .1 .1 .1 .0 ∙ c .before .before .before .before .before .before .before .before .before .loop .inv .new-size)
 
 slice-aggregate-copy-2 : tie.Need-slice-aggregate-copy-2 Inv-loop μ-loop
 slice-aggregate-copy-2 c = sym (c .before .before .before .before .before .before .before .before .before .before .loop .inv .old-size)
@@ -77,20 +77,20 @@ slice-aggregate-copy-2 c = sym (c .before .before .before .before .before .befor
 copy-requires : tie.Need-copy-requires Inv-loop μ-loop
 copy-requires c κs =
     let so-far = c .before .before .before .before .before .before .before .before .before .before .loop .inv in
-    omega (arith, c .before .before .before .before .before .before .level .kept .1 .1 .0, so-far .new-size, so-far .old-size)
+    omega (arith, c .before .before .before .before .before .before .level .kept .1 .1 .1 .0, so-far .new-size, so-far .old-size)
 
 add-j : tie.Need-add-j Inv-loop μ-loop
-add-j c = omega (arith, run-deep _ _ _ _ _ _ _ _ _ _ _ _ _ (c .before .before .before .before .before .before .before .before .before .before .before .before .before .loop .inv) (c .before .before .before .before .before .before .before .before .before .before .before .before .before .before .before .before .before .pre .some-window))
+add-j c = omega (arith, run-deep _ _ _ _ _ _ _ _ _ _ _ _ _ (c .before .before .before .before .before .before .before .before .before .before .before .before .before .loop .inv) (c .before .before .before .before .before .before .before .before .before .before .before .before .before .before .before .before .before .before .pre .some-window))
 
 loop-again : tie.Need-loop-again Inv-loop μ-loop
 loop-again c =
-    let start = c .before .before .before .before .before .before .before .before .before .before .before .before .before .before .before .before .before in
+    let start = c .before .before .before .before .before .before .before .before .before .before .before .before .before .before .before .before .before .before in
     let p = start .pre in
     let so-far = c .before .before .before .before .before .before .before .before .before .before .before .before .before .loop .inv in
     let level = c .before .before .before .before .before .before .before .before .before .level in
     let next = c .before .before .before .before .before .before .before .next-after in
-    run-goes-on _ _ _ _ _ _ _ _ _ _ _ _ _ so-far (p .some-window) (level .result) (start .args .m) (next .result) _ (level .last .1 .1 .0) _ (p .small)
-    (record { answer = level .ensures .0; flags = level .ensures .1 }) (p .extreme-is) (next .ensures) (c .before .before .before .before .before .enum-told .given .1) (level .kept .1 .1 .0)
+    run-goes-on _ _ _ _ _ _ _ _ _ _ _ _ _ so-far (p .some-window) (level .result) (start .args .m) (next .result) _ (level .last .1 .1 .1 .0) _ (p .small)
+    (record { answer = level .ensures .0; flags = level .ensures .1 }) (p .extreme-is) (next .ensures) (c .before .before .before .before .before .enum-told .given .1) (level .kept .1 .1 .1 .0)
     (c .before .before .copy .ensures .1) (c .before .before .before .before .before .before .before .before .before .before .before .before .starts-on .ensures)
 
 loop-less : tie.Need-loop-less Inv-loop μ-loop

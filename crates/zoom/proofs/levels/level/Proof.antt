@@ -1,32 +1,49 @@
 -- `zoom::levels::level` meets its contract. Assumes nothing.
+use mathlib.Core.Path.{_≡_, ap, _∙_}
+use mathlib.Core.List.{List}
+use Prim.Native.Nat.{ℕ}
+use native.Mathlib.Omega.{arith}
 use borrow.Author.Needs.{needs}
 use Rattle.geometry.specs.Layout.{rectsOf}
+use Rattle.geometry.proofs.Extremes.{better-self}
+use Rattle.zoom.specs.declared.Level.{Level}
+use Rattle.zoom.specs.Grid.{farOn}
+use Rattle.zoom.specs.Passing.{flagsInRows}
 use Rattle.zoom.proofs.Zooming.{harmless-on, level-done}
 use Rattle.zoom.proofs.levels.level.Statement.{statement}
 use Rattle.zoom.proofs.levels.level.Tie as tie
 
+rows-requires : tie.Need-rows-requires
+rows-requires c κs = (c .before .before .before .before .before .pre .0, tt)
+
 rows-requires-2 : tie.Need-rows-requires-2
 rows-requires-2 c κs =
-    let start = c .before .before .before .before .before in
+    let start = c .before .before .before .before .before .before .before .before .before .before in
     let a = start .args in
     let p = start .pre .0 in
-    let best = c .before .rows in
-    record {
-      drawn = p .drawn;
-      sized = p .sized;
-      spare = harmless-on (a .g .sense) (rectsOf (a .rects .now)) (a .g) (a .flags .now) (a .g .stride) (a .before) (best .result) (best .ensures) (p .spare);
-    }
+    let first = c .before .before .before .before .rows in
+    (
+      record {
+        swept = p .swept;
+        sized = p .sized;
+        spare =
+            harmless-on (a .g .sense) (rectsOf (a .rects .now)) (a .g) (a .flags .now) (a .g .stride) (a .before) (first .result .named)
+            (ap (λ (v : Level). v .named) (first .ensures .0)) (p .spare);
+      },
+      record { few = omega arith; stands = better-self (a .g .sense) (first .result .named .area) },
+    )
 
 returns : tie.Need-returns
 returns c =
-    let start = c .before .before .before .before .before .before .before .before in
+    let start = c .before .before .before .before .before .before .before .before .before .before .before .before .before in
     let a = start .args in
-    let best = c .before .before .before .before .rows in
+    let first = c .before .before .before .before .before .before .before .rows in
     let this = c .before .before .rows2 in
+    let written : List ℕ → List ℕ = λ l. flagsInRows (a .g .sense) (first .result .named .area) (farOn (a .g) (a .rects .now)) (a .g .t) (a .g .starts) (a .g .starts) l in
     let done =
-    level-done (a .g .sense) (rectsOf (a .rects .now)) (a .g) (a .before) (best .result) (this .result) (a .new .now) _ (start .pre .0 .sized) (start .pre .1)
-    (best .ensures) (record { search = this .ensures .0; flags = this .ensures .1 }) in
+    level-done (a .g .sense) (rectsOf (a .rects .now)) (a .g) (a .before) (first .result .named) (this .result) (a .new .now) _ (start .pre .0 .sized) (start .pre .1)
+    (ap (λ (v : Level). v .named) (first .ensures .0)) (record { search = this .ensures .0; flags = this .ensures .1 ∙ ap written (first .ensures .1) }) in
     (done .answer, done .flags)
 
 pub level-spec : {M : Type 1} → statement M
-level-spec = tie.close (tie.spec (λ c κs. search needs) rows-requires-2 (λ c. search needs) returns)
+level-spec = tie.close (tie.spec rows-requires rows-requires-2 (λ c. search needs) returns)

@@ -1,9 +1,9 @@
--- `zoom::bounds::better_area` meets its contract. Assumes nothing.
+-- `zoom::passes::better_area` meets its contract. Assumes nothing.
 use mathlib.Core.Path.{sym, _∙_}
 use borrow.Author.Needs.{needs}
 use Rattle.zoom.proofs.Folds.{area-taken, area-skip}
-use Rattle.zoom.proofs.bounds.better_area.Statement.{statement}
-use Rattle.zoom.proofs.bounds.better_area.Tie as tie
+use Rattle.zoom.proofs.passes.better_area.Statement.{statement}
+use Rattle.zoom.proofs.passes.better_area.Tie as tie
 
 returns : tie.Need-returns
 returns c =

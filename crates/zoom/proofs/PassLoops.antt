@@ -12,15 +12,19 @@ use Rattle.geometry.specs.declared.Spot.{Spot}
 use Rattle.geometry.specs.declared.Sense.{Sense}
 use Rattle.geometry.specs.Count.{sum, one-if}
 use Rattle.geometry.specs.Extreme.{better, spotAt, replaced, bestInRow, bestInRows, NoBetter}
+use Rattle.geometry.proofs.Extremes.{step-skip}
 use Rattle.geometry.proofs.Counting.{sum-le, sum-const}
 use Rattle.geometry.proofs.Overlaps.{one-if-small}
 use Rattle.zoom.specs.declared.Grid.{Grid}
 use Rattle.zoom.specs.declared.Level.{Level}
+use Rattle.zoom.specs.declared.Pass.{Pass}
+use Rattle.zoom.specs.declared.Pass.the-variants.{Standard, Far}
 use Rattle.zoom.specs.Run.{farArea}
 use Rattle.zoom.specs.Sizes.{startsRoom, levelRoom, keptRoom}
 use Rattle.zoom.specs.Grid.{Sized}
 use Rattle.zoom.specs.Passing.{flagAbove, Spares, HarmlessRow, flagOf, flagsInRow, flagsInRows}
 use Rattle.zoom.specs.Weighing.{betterArea, weighed, farInRow, farInRows, Weighable}
+use Rattle.zoom.specs.Passes.{withNamed, looked, flagged, spared, passInRow, passInRows, flagsPassed, flagsPassedRows, Lookable}
 use Rattle.zoom.proofs.Folds.{no-better-trans, area-better, area-skip, area-stays, row-stays, rows-stay}
 use Rattle.zoom.proofs.Starts.{start-fits}
 
@@ -262,3 +266,161 @@ module _ (s : Sense) (f : ℕ → ℕ → ℕ) (t k j : ℕ) (before after : Lev
 
   pub rows-are-done : (m : ℕ) → j ≤ m → m ≤ j → RowsSoFar s f t k m before after new new′
   rows-are-done m h l = subst (λ (i : ℕ). RowsSoFar s f t k i before after new new′) (omega arith) so-far
+
+-- ---- either pass
+
+-- what the code leaves after one start
+module _ (p : Pass) (s : Sense) (v : Level) (seen : Spot) (at : ℕ) (new : List ℕ) where
+  pub look-standard : (b : Spot) → p ≡ Standard → b ≡ replaced s (v .named) seen →
+      (withNamed v b ≡ looked p s v seen) × (new ≡ flagged p s (v .named .area) at (seen .area) new)
+  look-standard b e h = rw e (ap (withNamed v) h, refl)
+
+  pub look-far : (r : Level) (l : List ℕ) → p ≡ Far → r ≡ weighed s v (seen .area) → l ≡ set new at (flagOf s (v .named .area) (seen .area)) →
+      (r ≡ looked p s v seen) × (l ≡ flagged p s (v .named .area) at (seen .area) new)
+  look-far r l e h k = rw e (h, k)
+
+-- the first i starts of a row were looked at
+pub record PassSoFar (p : Pass) (s : Sense) (f : ℕ → ℕ → ℕ) (t y at i : ℕ) (before after : Level) (new new′ : List ℕ) : Type 0 where
+  pub search : after ≡ passInRow p s f t y i before
+  pub flags : new′ ≡ flagsPassed p s (before .named .area) f t y at i new
+
+pub pass-begins : (p : Pass) (s : Sense) (f : ℕ → ℕ → ℕ) (t y at : ℕ) (before : Level) (new : List ℕ) → PassSoFar p s f t y at 0 before before new new
+unfolding bestInRow farInRow flagsInRow
+pass-begins Standard s f t y at before new = record { search = refl; flags = refl }
+pass-begins Far s f t y at before new = record { search = refl; flags = refl }
+
+far-so-far : (s : Sense) (f : ℕ → ℕ → ℕ) (t y at i : ℕ) (before after : Level) (new new′ : List ℕ) → PassSoFar Far s f t y at i before after new new′ →
+    RowSoFar s (λ x. f x y) t at i before after new new′
+far-so-far s f t y at i before after new new′ z = record { search = z .search; flags = z .flags }
+
+pub pass-lookable : (p : Pass) (s : Sense) (f : ℕ → ℕ → ℕ) (t y at i : ℕ) (before after : Level) (new new′ : List ℕ) →
+    PassSoFar p s f t y at i before after new new′ → i ≤ startsRoom → Lookable p s levelRoom before → Lookable p s keptRoom after
+pass-lookable Standard s f t y at i before after new new′ z h l = tt
+pass-lookable Far s f t y at i before after new new′ z h l =
+    row-weighable s (λ x. f x y) t at i before after new new′ (far-so-far s f t y at i before after new new′ z) h l
+
+-- a level whose window is the best so far, the rest as it was
+named-so-far : (s : Sense) (f : ℕ → ℕ → ℕ) (t y at i : ℕ) (before after : Level) (new new′ : List ℕ) → PassSoFar Standard s f t y at i before after new new′ →
+    (b : Spot) → b ≡ bestInRow s f t y (i + 1) (before .named) → withNamed after b ≡ passInRow Standard s f t y (i + 1) before
+named-so-far s f t y at i before after new new′ z b e =
+    λ k. record { named = e k; limit = ap (λ (v : Level). v .limit) (z .search) k; kept = ap (λ (v : Level). v .kept) (z .search) k }
+
+best-so-far : (s : Sense) (f : ℕ → ℕ → ℕ) (t y at i : ℕ) (before after : Level) (new new′ : List ℕ) → PassSoFar Standard s f t y at i before after new new′ →
+    after .named ≡ bestInRow s f t y i (before .named)
+best-so-far s f t y at i before after new new′ z = ap (λ (v : Level). v .named) (z .search)
+
+-- one start more, looked at or passed over
+pub pass-looks : (p : Pass) (s : Sense) (f : ℕ → ℕ → ℕ) (t y at i : ℕ) (before after : Level) (new new′ : List ℕ) →
+    PassSoFar p s f t y at i before after new new′ → (area : ℕ) (r : Level) (l : List ℕ) → area ≡ f (i * t) y →
+    r ≡ looked p s after (record { area = area; x = i * t; y = y }) → l ≡ flagged p s (after .named .area) (at + i) area new′ →
+    PassSoFar p s f t y at (i + 1) before r new l
+pass-looks Standard s f t y at i before after new new′ z area r l q e k =
+    record {
+      search =
+          e
+          ∙ named-so-far s f t y at i before after new new′ z _
+          (row-next s f t y i (before .named) (after .named) (best-so-far s f t y at i before after new new′ z) _
+          (looked-at s f (i * t) y area (after .named) _ q refl));
+      flags = k ∙ z .flags;
+    }
+pass-looks Far s f t y at i before after new new′ z area r l q e k =
+    let w = row-advances s (λ x. f x y) t at i before after new new′ (far-so-far s f t y at i before after new new′ z) r l
+    (weighed-at s area (f (i * t) y) (at + i) after r new′ l q (record { search = e; flags = k })) in
+    record { search = w .search; flags = w .flags }
+
+pub pass-skips : (p : Pass) (s : Sense) (f : ℕ → ℕ → ℕ) (t y at i : ℕ) (before after : Level) (new new′ : List ℕ) →
+    PassSoFar p s f t y at i before after new new′ → (k : ℕ) (flags : List ℕ) (stride j : ℕ) (l : List ℕ) →
+    Spares s (λ x. f x y) t k flags stride j (before .named .area) → i < k → k ≤ startsRoom → flagAbove flags stride i j ≡ 1 → Lookable p s levelRoom before →
+    l ≡ spared p (at + i) new′ → PassSoFar p s f t y at (i + 1) before after new l
+pass-skips Standard s f t y at i before after new new′ z k flags stride j l spare h few e w q =
+    record {
+      search =
+          named-so-far s f t y at i before after new new′ z (after .named)
+          (row-next s f t y i (before .named) (after .named) best _
+          (sym (step-skip s (after .named) (spotAt f (i * t) y) (row-spares s f t y i (before .named) (after .named) best k flags stride j spare h e))));
+      flags = q ∙ z .flags;
+    }
+  where
+    best : after .named ≡ bestInRow s f t y i (before .named)
+    best = best-so-far s f t y at i before after new new′ z
+pass-skips Far s f t y at i before after new new′ z k flags stride j l spare h few e w q =
+    let r = far-so-far s f t y at i before after new new′ z in
+    let worse = row-no-better s (λ x. f x y) t at i before after new new′ r (f (i * t) y) (spare i h e) in
+    let stands = row-weighable s (λ x. f x y) t at i before after new new′ r (omega arith) w .stands in
+    let next = row-advances s (λ x. f x y) t at i before after new new′ r after l (weighs-nothing s (f (i * t) y) (at + i) after new′ l worse stands q) in
+    record { search = next .search; flags = next .flags }
+
+module _ (p : Pass) (s : Sense) (f : ℕ → ℕ → ℕ) (t y at i : ℕ) (before after : Level) (new new′ : List ℕ)
+    (z : PassSoFar p s f t y at i before after new new′) where
+  pub pass-done : (k : ℕ) → i ≤ k → k ≤ i → PassSoFar p s f t y at k before after new new′
+  pass-done k h l = subst (λ (m : ℕ). PassSoFar p s f t y at m before after new new′) (omega arith) z
+
+  pub pass-length : length new′ ≡ length new
+  pass-length = ap length (z .flags) ∙ same p
+    where
+      same : (p : Pass) → length (flagsPassed p s (before .named .area) f t y at i new) ≡ length new
+      same Standard = refl
+      same Far = flags-row-length s (before .named .area) (λ x. f x y) t at i new
+
+-- the first j rows
+pub record PassesSoFar (p : Pass) (s : Sense) (f : ℕ → ℕ → ℕ) (t k j : ℕ) (before after : Level) (new new′ : List ℕ) : Type 0 where
+  pub search : after ≡ passInRows p s f t k j before
+  pub flags : new′ ≡ flagsPassedRows p s (before .named .area) f t k j new
+
+pub passes-begin : (p : Pass) (s : Sense) (f : ℕ → ℕ → ℕ) (t k : ℕ) (before : Level) (new : List ℕ) → PassesSoFar p s f t k 0 before before new new
+unfolding bestInRows farInRows flagsInRows
+passes-begin Standard s f t k before new = record { search = refl; flags = refl }
+passes-begin Far s f t k before new = record { search = refl; flags = refl }
+
+module _ (s : Sense) (f : ℕ → ℕ → ℕ) (t k j : ℕ) (before after : Level) (new new′ : List ℕ) where
+  standard-best : PassesSoFar Standard s f t k j before after new new′ → after .named ≡ bestInRows s f t k j (before .named)
+  standard-best z = ap (λ (v : Level). v .named) (z .search)
+
+  far-rows : PassesSoFar Far s f t k j before after new new′ → RowsSoFar s f t k j before after new new′
+  far-rows z = record { search = z .search; flags = z .flags }
+
+-- what is no better than the window before the rows is no better than it now
+pub passes-spare : (p : Pass) (s : Sense) (f : ℕ → ℕ → ℕ) (t k j : ℕ) (before after : Level) (new new′ : List ℕ) →
+    PassesSoFar p s f t k j before after new new′ → (rs : List Rect) (n w : ℕ) (flags : List ℕ) (stride : ℕ) →
+    HarmlessRow s rs n w t flags stride j (before .named .area) → HarmlessRow s rs n w t flags stride j (after .named .area)
+passes-spare Standard s f t k j before after new new′ z rs n w flags stride h =
+    rows-spare s f t k j (before .named) (after .named) (standard-best s f t k j before after new new′ z) rs n w flags stride h
+passes-spare Far s f t k j before after new new′ z rs n w flags stride h =
+    subst (λ (b : Spot). HarmlessRow s rs n w t flags stride j (b .area))
+    (sym (rows-named s f t k j before after new new′ (far-rows s f t k j before after new new′ z))) h
+
+pub passes-lookable : (p : Pass) (s : Sense) (f : ℕ → ℕ → ℕ) (t k j : ℕ) (before after : Level) (new new′ : List ℕ) →
+    PassesSoFar p s f t k j before after new new′ → j * k ≤ levelRoom → Lookable p s 0 before → Lookable p s levelRoom after
+passes-lookable Standard s f t k j before after new new′ z h w = tt
+passes-lookable Far s f t k j before after new new′ z h w =
+    rows-weighable s f t k j before after new new′ (far-rows s f t k j before after new new′ z) (omega (arith, w .few)) (w .stands)
+
+pub passes-advance : (p : Pass) (s : Sense) (f : ℕ → ℕ → ℕ) (t k j : ℕ) (before after : Level) (new new′ : List ℕ) →
+    PassesSoFar p s f t k j before after new new′ → (r : Level) (l : List ℕ) → r ≡ passInRow p s f t (j * t) k after →
+    l ≡ flagsPassed p s (after .named .area) f t (j * t) (j * k) k new′ → PassesSoFar p s f t k (j + 1) before r new l
+passes-advance Standard s f t k j before after new new′ z r l e q =
+    record {
+      search =
+          e
+          ∙ (λ i. record {
+            named = rows-next s f t k j (before .named) (after .named) (standard-best s f t k j before after new new′ z) _ refl i;
+            limit = ap (λ (v : Level). v .limit) (z .search) i;
+            kept = ap (λ (v : Level). v .kept) (z .search) i;
+          });
+      flags = q ∙ z .flags;
+    }
+passes-advance Far s f t k j before after new new′ z r l e q =
+    let w = rows-advance s f t k j before after new new′ (far-rows s f t k j before after new new′ z) r l (record { search = e; flags = q }) in
+    record { search = w .search; flags = w .flags }
+
+module _ (p : Pass) (s : Sense) (f : ℕ → ℕ → ℕ) (t k j : ℕ) (before after : Level) (new new′ : List ℕ)
+    (z : PassesSoFar p s f t k j before after new new′) where
+  pub passes-done : (m : ℕ) → j ≤ m → m ≤ j → PassesSoFar p s f t k m before after new new′
+  passes-done m h l = subst (λ (i : ℕ). PassesSoFar p s f t k i before after new new′) (omega arith) z
+
+  pub passes-length : length new′ ≡ length new
+  passes-length = ap length (z .flags) ∙ same p
+    where
+      same : (p : Pass) → length (flagsPassedRows p s (before .named .area) f t k j new) ≡ length new
+      same Standard = refl
+      same Far = flags-rows-length s (before .named .area) f t k j new

@@ -1,9 +1,9 @@
--- `zoom::bounds::weigh` meets its contract. Assumes nothing.
+-- `zoom::passes::weigh` meets its contract. Assumes nothing.
 use mathlib.Core.Path.{sym, _∙_}
 use borrow.Author.Needs.{needs}
-use Rattle.zoom.proofs.Passes.{weighs-more, weighs-nothing}
-use Rattle.zoom.proofs.bounds.weigh.Statement.{statement}
-use Rattle.zoom.proofs.bounds.weigh.Tie as tie
+use Rattle.zoom.proofs.PassLoops.{weighs-more, weighs-nothing}
+use Rattle.zoom.proofs.passes.weigh.Statement.{statement}
+use Rattle.zoom.proofs.passes.weigh.Tie as tie
 
 returns : tie.Need-returns
 returns c =

@@ -1,0 +1,87 @@
+-- A box that is carried along a row: it is not right of the next start's window, so it may move there.
+use Prim.Native.Nat.{ℕ, _+_, _*_, _≤_, _<_}
+use mathlib.Core.Path.{_≡_, refl, sym, ap, subst}
+use mathlib.Core.List.{List}
+use native.Mathlib.Nat.{mul-le-mul-right}
+use native.Mathlib.Omega.{arith}
+use Rattle.geometry.specs.declared.Sense.{Sense}
+use Rattle.geometry.specs.declared.Sense.the-variants.{Greatest, Least}
+use Rattle.geometry.specs.Sizes.{widest}
+use Rattle.sweep.specs.declared.Frame.{Frame}
+use Rattle.sweep.specs.Strips.{Strip}
+use Rattle.sweep.specs.Cursors.{frameAt, startFrame, Behind}
+use Rattle.sweep.proofs.Moving.{start-is}
+use Rattle.zoom.specs.declared.Grid.{Grid}
+use Rattle.zoom.specs.Sizes.{spanRoom}
+use Rattle.zoom.specs.Grid.{Sized}
+use Rattle.zoom.specs.Strips.{spanFrom, spanTo, OnRow, Waits}
+use Rattle.zoom.proofs.PassLoops.{start-inside}
+
+-- ---- spans
+
+-- a window further on begins and ends no earlier
+from-grows : (s : Sense) (u a b : ℕ) → a ≤ b → spanFrom s u a ≤ spanFrom s u b
+from-grows Greatest u a b h = h
+from-grows Least u a b h = omega arith
+
+to-grows : (s : Sense) (n w u a b : ℕ) → a ≤ b → spanTo s n w u a ≤ spanTo s n w u b
+to-grows Greatest n w u a b h = omega arith
+to-grows Least n w u a b h = omega arith
+
+pub span-upright : (s : Sense) (n w u x : ℕ) → u ≤ w → x + w ≤ n → spanFrom s u x ≤ spanTo s n w u x
+span-upright Greatest n w u x h k = omega arith
+span-upright Least n w u x h k = omega arith
+
+span-inside : (s : Sense) (n w u x : ℕ) → x + w ≤ n → spanTo s n w u x ≤ n
+span-inside Greatest n w u x h = omega arith
+span-inside Least n w u x h = omega arith
+
+-- ---- the box
+
+pub waits-first : (lows highs : List ℕ) (g : Grid) (u : ℕ) (f : Frame) → Strip lows highs → f ≡ startFrame → Waits lows highs g u 0 f
+waits-first lows highs g u f s e =
+    subst (λ (f : Frame). Waits lows highs g u 0 f) (sym e) (record { is = start-is lows highs s; left-earlier = omega arith; right-earlier = omega arith })
+
+module _ (lows highs : List ℕ) (g : Grid) (u i : ℕ) where
+  further : i * g .t ≤ (i + 1) * g .t
+  further = mul-le-mul-right (g .t) (omega arith)
+
+  pub waits-on : (f : Frame) → Waits lows highs g u i f → Waits lows highs g u (i + 1) f
+  waits-on f w =
+      record {
+        is = w .is;
+        left-earlier = omega (arith, w .left-earlier, from-grows (g .sense) u (i * g .t) ((i + 1) * g .t) further);
+        right-earlier = omega (arith, w .right-earlier, to-grows (g .sense) (g .n) (g .w) u (i * g .t) ((i + 1) * g .t) further);
+      }
+
+  pub waits-moved : (f : Frame) → f ≡ frameAt lows highs (spanFrom (g .sense) u (i * g .t)) (spanTo (g .sense) (g .n) (g .w) u (i * g .t)) →
+      Waits lows highs g u (i + 1) f
+  waits-moved f e =
+      subst (λ (f : Frame). Waits lows highs g u (i + 1) f) (sym e)
+      (record {
+        is = refl;
+        left-earlier = from-grows (g .sense) u (i * g .t) ((i + 1) * g .t) further;
+        right-earlier = to-grows (g .sense) (g .n) (g .w) u (i * g .t) ((i + 1) * g .t) further;
+      })
+
+  pub waits-behind : (f : Frame) (left right : ℕ) → OnRow g u i → Waits lows highs g u i f → left ≡ spanFrom (g .sense) u (i * g .t) →
+      right ≡ spanTo (g .sense) (g .n) (g .w) u (i * g .t) → Behind lows highs f left right
+  waits-behind f left right o w p q =
+      record {
+        is = w .is;
+        left-earlier = omega (arith, p, w .left-earlier);
+        right-earlier = omega (arith, q, w .right-earlier);
+        upright = omega (arith, p, q, span-upright (g .sense) (g .n) (g .w) u (i * g .t) (o .step-fits) inside);
+        small = omega (arith, q, span-inside (g .sense) (g .n) (g .w) u (i * g .t) inside, o .sized .small);
+      }
+    where
+      inside : i * g .t + g .w ≤ g .n
+      inside = start-inside g i (o .sized) (o .within)
+
+  pub frame-moved : (f : Frame) (left right : ℕ) → left ≡ spanFrom (g .sense) u (i * g .t) → right ≡ spanTo (g .sense) (g .n) (g .w) u (i * g .t) →
+      f ≡ frameAt lows highs left right → f ≡ frameAt lows highs (spanFrom (g .sense) u (i * g .t)) (spanTo (g .sense) (g .n) (g .w) u (i * g .t))
+  frame-moved f left right p q e = rw (p, q) at e
+
+-- a start's window ends where 64 bits hold it
+pub start-room : (g : Grid) (u i : ℕ) → OnRow g u i → i * g .t + g .w + u ≤ spanRoom
+start-room g u i o = omega (arith, start-inside g i (o .sized) (o .within), o .sized .small, o .sized .inside, o .step-fits)
