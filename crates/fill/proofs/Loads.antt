@@ -1,6 +1,6 @@
 -- The table of tile loads: how it is filled, that its whole load fits 64 bits, and that the search over it gives the verdict.
 use Prim.Native.Nat.{ℕ, zero, suc, _+_, _-_, _*_, _/_, _%_, _≤_, _<_, min}
-use mathlib.Core.Path.{_≡_, refl, sym, ap, ap₂, _∙_}
+use mathlib.Core.Path.{_≡_, refl, sym, ap, ap₂, _∙_, subst}
 use mathlib.Core.List.{List}
 use mathlib.Core.Logic.{_⊎_, inl, inr}
 use native.Mathlib.Nat.{add-zero, sub-zero, suc-mul, mul-le-mul, mul-le-mul-right, mod-lt, div-lt-iff-lt-mul, div-add-mod'}
@@ -9,13 +9,18 @@ use native.Mathlib.Omega.{arith}
 use lib.Arith.{digits-lt, digits-div, digits-mod}
 use lib.ListN.{length, getD, set, length-set}
 use lib.Seq.{getD-set-same, getD-set-other}
-use Rattle.laws.proofs.Tests.{below-or-last}
+use Rattle.laws.proofs.Tests.{le-or-lt, below-or-last}
 use Rattle.geometry.specs.declared.Rect.{Rect}
 use Rattle.geometry.specs.Sizes.{widest, largest}
 use Rattle.geometry.specs.Count.{boxSum}
 use Rattle.geometry.specs.Layout.{coveredArea, rectsOf}
 use Rattle.geometry.proofs.Counting.{Inside, box-cong, box-le, box-const}
 use Rattle.geometry.proofs.Overlaps.{area-small}
+use Rattle.sweep.specs.declared.Frame.{Frame}
+use Rattle.sweep.specs.Strips.{stripSum, Strip}
+use Rattle.sweep.specs.Cursors.{frameAt, startFrame, Behind}
+use Rattle.sweep.proofs.Moving.{start-is}
+use Rattle.sweep.proofs.Covered.{StripOf}
 use Rattle.fill.specs.declared.Plan.{Plan}
 use Rattle.fill.specs.declared.Bound.{Bound}
 use Rattle.fill.specs.declared.Failing.{Failing}
@@ -24,54 +29,51 @@ use Rattle.fill.specs.declared.Verdict.{Verdict}
 use Rattle.fill.specs.declared.Verdict.the-variants.{Broken}
 use Rattle.fill.specs.Eligible.{tile, fillableArea}
 use Rattle.fill.specs.Judge.{TileBox, numberAt, load, standardTiles, bloatedTiles, shrunkTiles, failingAt, startsAcross, standardFailing, marginFailing, judged, verdictOf}
-use Rattle.fill.specs.Windows.{ruleOf, loadOf, tilesForUpper, tilesForLower, failingBy, searchBy, allTiles, Loads, Filled}
-use Rattle.fill.specs.Sizes.{mostAcross, tilesRoom, topBound, Tiled}
+use Rattle.fill.specs.Windows.{ruleOf, loadOf, loadAlong, tilesForUpper, tilesForLower, failingBy, searchBy, allTiles, Loads, Filled}
+use Rattle.fill.specs.Sizes.{mostAcross, tilesRoom, topBound, Tiled, RowTiled}
 use Rattle.fill.proofs.Grown.{fillable-small}
 use Rattle.fill.proofs.Starts.{rows-cong}
 use Rattle.fill.proofs.Cutting.{same-box}
 
--- ---- a table that is filled from the front
+-- ---- a table that is filled, tile by tile and row by row
 
-pub filled-start : (f : ℕ → ℕ) (l : List ℕ) → Filled f l l 0
-filled-start f l = record { size = refl; set = λ k h. absurd (omega arith); rest = λ k h. refl }
+pub filled-start : (f : ℕ → ℕ) (l : List ℕ) (from : ℕ) → Filled f l l from from
+filled-start f l from = record { size = refl; set = λ k h u. absurd (omega arith); below = λ k h. refl; rest = λ k h. refl }
 
-pub filled-next : (f : ℕ → ℕ) (l m : List ℕ) (t v : ℕ) → Filled f l m t → t < length m → v ≡ f t → Filled f l (set m t v) (t + 1)
-filled-next f l m t v s h e =
+pub filled-next : (f : ℕ → ℕ) (l m : List ℕ) (from t v : ℕ) → Filled f l m from t → from ≤ t → t < length m → v ≡ f t → Filled f l (set m t v) from (t + 1)
+filled-next f l m from t v s p h e =
     record {
       size = length-set m t v ∙ s .size;
-      set = λ k u. go k (below-or-last k t (omega arith));
+      set = λ k a u. go k a (below-or-last k t (omega arith));
+      below = λ k u. getD-set-other m t k v 0 (λ q. omega arith) ∙ s .below k u;
       rest = λ k u. getD-set-other m t k v 0 (λ q. omega arith) ∙ s .rest k (omega arith);
     }
   where
-    go : (k : ℕ) → (k < t) ⊎ (k ≡ t) → getD (set m t v) k 0 ≡ f k
-    go k (inl u) = getD-set-other m t k v 0 (λ q. omega arith) ∙ s .set k u
-    go k (inr q) = ap (λ (x : ℕ). getD (set m t v) x 0) q ∙ getD-set-same m t v 0 h ∙ e ∙ ap f (sym q)
+    go : (k : ℕ) → from ≤ k → (k < t) ⊎ (k ≡ t) → getD (set m t v) k 0 ≡ f k
+    go k a (inl u) = getD-set-other m t k v 0 (λ q. omega arith) ∙ s .set k a u
+    go k a (inr q) = ap (λ (x : ℕ). getD (set m t v) x 0) q ∙ getD-set-same m t v 0 h ∙ e ∙ ap f (sym q)
 
-pub filled-end : (f : ℕ → ℕ) (l m : List ℕ) (t n : ℕ) → Filled f l m t → t ≤ n → n ≤ t → Filled f l m n
-filled-end f l m t n s h k =
-    record { size = s .size; set = λ i u. s .set i (omega arith); rest = λ i u. s .rest i (omega arith) }
+pub filled-to : (f : ℕ → ℕ) (l m : List ℕ) (from to n : ℕ) → Filled f l m from to → to ≡ n → Filled f l m from n
+filled-to f l m from to n s e = subst (Filled f l m from) e s
 
--- ---- the place of tile number t
+pub filled-then : (f : ℕ → ℕ) (l m k : List ℕ) (from mid to : ℕ) → Filled f l m from mid → Filled f m k mid to → from ≤ mid → mid ≤ to → Filled f l k from to
+filled-then f l m k from mid to s r p q =
+    record {
+      size = r .size ∙ s .size;
+      set = λ i a u. go i a u (le-or-lt mid i);
+      below = λ i u. r .below i (omega arith) ∙ s .below i u;
+      rest = λ i u. r .rest i u ∙ s .rest i (omega arith);
+    }
+  where
+    go : (i : ℕ) → from ≤ i → i < to → (mid ≤ i) ⊎ (i < mid) → getD k i 0 ≡ f i
+    go i a u (inl h) = r .set i h u
+    go i a u (inr h) = r .below i h ∙ s .set i a h
 
-module _ (across side t : ℕ) (h : t < across * across) where
-  pub some : 0 < across
-  some = go across h
-    where
-      go : (k : ℕ) → t < k * k → 0 < k
-      go zero u = absurd (omega arith)
-      go (suc k) u = omega arith
+pub rows-done : (f : ℕ → ℕ) (l m : List ℕ) (across j : ℕ) → Filled f l m 0 (j * across) → j ≤ across → across ≤ j → Filled f l m 0 (across * across)
+rows-done f l m across j s h k = filled-to f l m 0 (j * across) (across * across) s (ap (λ (i : ℕ). i * across) (omega arith))
 
-  column-small : t % across < across
-  column-small = mod-lt t some
-
-  row-small : t / across < across
-  row-small = div-lt-iff-lt-mul {k = across} some .1 h
-
-  pub tile-inside : across * side ≤ widest → (suc (t % across) * side ≤ widest) × (suc (t / across) * side ≤ widest)
-  tile-inside s = (omega (arith, mul-le-mul-right side column-small), omega (arith, mul-le-mul-right side row-small))
-
-  pub side-small : across * side ≤ widest → side ≤ widest
-  side-small s = omega (arith, mul-le-mul-right side some)
+pub filled-as : (f g : ℕ → ℕ) (l m : List ℕ) (from to : ℕ) → Filled f l m from to → ((k : ℕ) → from ≤ k → k < to → f k ≡ g k) → Filled g l m from to
+filled-as f g l m from to s e = record { size = s .size; set = λ k a u. s .set k a u ∙ e k a u; below = s .below; rest = s .rest }
 
 -- a tile's width
 tile-width : (side i : ℕ) → suc i * side - i * side ≡ side
@@ -84,25 +86,105 @@ tile-small rs side i j = omega (arith, area-small rs (tile side i j), ap₂ _*_ 
 pub tile-fillable : (gap : ℕ) (rs : List Rect) (side i j : ℕ) → fillableArea gap rs (tile side i j) ≤ side * side
 tile-fillable gap rs side i j = omega (arith, fillable-small gap rs (tile side i j), ap₂ _*_ (tile-width side i) (tile-width side j))
 
-module _ (rects amounts : List ℕ) (plan : Plan) (t v : ℕ) (b : Rect) (e : b ≡ tile (plan .side) (t % plan .across) (t / plan .across))
-    (k : v ≡ coveredArea (rectsOf rects) b) where
-  pub load-formed : v + getD amounts t 0 ≡ loadOf (rectsOf rects) amounts plan t
-  load-formed = ap₂ _+_ (k ∙ ap (coveredArea (rectsOf rects)) e) (ap (λ (p : ℕ). getD amounts p 0) (sym (div-add-mod' t (plan .across))))
+-- ---- a row of tiles by its strip
 
-  pub load-fits : Tiled rects amounts plan → t < plan .across * plan .across → v + getD amounts t 0 ≤ 2 * largest
-  load-fits s h =
-      omega (
-        arith,
-        k ∙ ap (coveredArea (rectsOf rects)) e,
-        tile-small (rectsOf rects) (plan .side) (t % plan .across) (t / plan .across),
-        s .room t,
-        mul-le-mul (side-small (plan .across) (plan .side) t h (s .layout)) (side-small (plan .across) (plan .side) t h (s .layout)),
-      )
+pub row-fits : (across side j : ℕ) → j < across → across * side ≤ widest → j * side + side ≤ widest
+row-fits across side j h k = omega (arith, mul-le-mul-right {m = suc j} {n = across} side h, suc-mul j side)
+
+module _ (rects amounts : List ℕ) (plan : Plan) (j : ℕ) (z : Tiled rects amounts plan) (row : j < plan .across) (lows highs : List ℕ)
+    (lent : StripOf rects (j * plan .side) (j * plan .side + plan .side) lows highs) where
+  tile-area : (i : ℕ) → stripSum lows highs (i * plan .side) (suc i * plan .side) ≡ coveredArea (rectsOf rects) (tile (plan .side) i j)
+  tile-area i =
+      lent .areas (i * plan .side) (suc i * plan .side) (omega (arith, suc-mul i (plan .side)))
+      ∙ ap (λ (y : ℕ). coveredArea (rectsOf rects) (record { x1 = i * plan .side; y1 = j * plan .side; x2 = suc i * plan .side; y2 = y }))
+      (omega (arith, suc-mul j (plan .side)))
+
+  side-small : plan .side ≤ widest
+  side-small = omega (arith, z .layout, mul-le-mul-right {m = 1} {n = plan .across} (plan .side) (omega arith))
+
+  pub row-tiled : RowTiled lows highs amounts plan j
+  row-tiled =
+      record {
+        few = z .few;
+        row = row;
+        table = z .table;
+        light = λ i h.
+            omega (arith, tile-area i, tile-small (rectsOf rects) (plan .side) i j, z .room (j * plan .across + i), mul-le-mul side-small side-small);
+        layout = z .layout;
+      }
+
+  pub row-loads : (t : ℕ) → j * plan .across ≤ t → t < suc j * plan .across → loadAlong lows highs amounts plan j t ≡ loadOf (rectsOf rects) amounts plan t
+  row-loads t h k =
+      ap₂ _+_ (tile-area i) (ap (λ (p : ℕ). getD amounts p 0) here)
+      ∙ sym (ap₂ (load (rectsOf rects) amounts plan) (ap (λ (p : ℕ). p % plan .across) here ∙ digits-mod j {m = plan .across} {r = i} inside)
+      (ap (λ (p : ℕ). p / plan .across) here ∙ digits-div j {m = plan .across} {r = i} inside))
+    where
+      i : ℕ
+      i = t - j * plan .across
+
+      here : t ≡ j * plan .across + (t - j * plan .across)
+      here = omega arith
+
+      inside : t - j * plan .across < plan .across
+      inside = omega (arith, suc-mul j (plan .across))
+
+-- ---- a box that is carried along a row of tiles
+
+-- it ends no further right than the next tile begins
+pub record AtTile (lows highs : List ℕ) (side i : ℕ) (f : Frame) : Type 0 where
+  pub is : f ≡ frameAt lows highs (f .left) (f .right)
+  pub left-earlier : f .left ≤ i * side
+  pub right-earlier : f .right ≤ i * side
+
+pub at-first : (lows highs : List ℕ) (side : ℕ) (f : Frame) → Strip lows highs → f ≡ startFrame → AtTile lows highs side 0 f
+at-first lows highs side f s e =
+    subst (λ (f : Frame). AtTile lows highs side 0 f) (sym e) (record { is = start-is lows highs s; left-earlier = omega arith; right-earlier = omega arith })
+
+module _ (lows highs : List ℕ) (side i : ℕ) (f : Frame) where
+  pub at-next : f ≡ frameAt lows highs (i * side) ((i + 1) * side) → AtTile lows highs side (i + 1) f
+  at-next e =
+      subst (λ (f : Frame). AtTile lows highs side (i + 1) f) (sym e)
+      (record { is = refl; left-earlier = mul-le-mul-right side (omega arith); right-earlier = omega arith })
+
+  pub tile-behind : AtTile lows highs side i f → (i + 1) * side ≤ widest → Behind lows highs f (i * side) ((i + 1) * side)
+  tile-behind a h =
+      record {
+        is = a .is;
+        left-earlier = a .left-earlier;
+        right-earlier = omega (arith, a .right-earlier, mul-le-mul-right {m = i} {n = i + 1} side (omega arith));
+        upright = mul-le-mul-right side (omega arith);
+        small = h;
+      }
+
+module _ (lows highs amounts : List ℕ) (plan : Plan) (j i : ℕ) (z : RowTiled lows highs amounts plan j) (h : i < plan .across) where
+  pub tile-right : (i + 1) * plan .side ≤ widest
+  tile-right = omega (arith, z .layout, mul-le-mul-right {m = i + 1} {n = plan .across} (plan .side) (omega arith))
+
+  pub place-inside : j * plan .across + i < plan .across * plan .across
+  place-inside = omega (arith, mul-le-mul-right {m = suc j} {n = plan .across} (plan .across) (z .row), suc-mul j (plan .across))
+
+  pub place-small : j * plan .across + i < tilesRoom
+  place-small = omega (arith, place-inside, mul-le-mul (z .few) (z .few))
+
+  module _ (f : Frame) (e : f ≡ frameAt lows highs (i * plan .side) ((i + 1) * plan .side)) where
+    area-is : f .area ≡ stripSum lows highs (i * plan .side) (suc i * plan .side)
+    area-is = ap (λ (f : Frame). f .area) e ∙ ap (λ (k : ℕ). stripSum lows highs (i * plan .side) (k * plan .side)) (add-one i)
+
+    pub load-fits : f .area + getD amounts (j * plan .across + i) 0 ≤ 2 * largest
+    load-fits = omega (arith, area-is, z .light i h)
+
+    pub load-formed : f .area + getD amounts (j * plan .across + i) 0 ≡ loadAlong lows highs amounts plan j (j * plan .across + i)
+    load-formed =
+        ap (λ (a : ℕ). a + getD amounts (j * plan .across + i) 0) area-is
+        ∙ ap (λ (k : ℕ). stripSum lows highs (k * plan .side) (suc k * plan .side) + getD amounts (j * plan .across + i) 0) column
+      where
+        column : i ≡ j * plan .across + i - j * plan .across
+        column = omega arith
 
 -- ---- the filled table
 
 module _ (rects amounts : List ℕ) (plan : Plan) (before table : List ℕ)
-    (s : Filled (loadOf (rectsOf rects) amounts plan) before table (plan .across * plan .across)) where
+    (s : Filled (loadOf (rectsOf rects) amounts plan) before table 0 (plan .across * plan .across)) where
   abbrev across : ℕ
   across = plan .across
 
@@ -111,7 +193,7 @@ module _ (rects amounts : List ℕ) (plan : Plan) (before table : List ℕ)
 
   table-load : (i j : ℕ) → i < across → j < across → numberAt table across i j ≡ loads i j
   table-load i j h k =
-      s .set (j * across + i) (digits-lt {q = j} {m = across} {r = i} {c = across} k h)
+      s .set (j * across + i) (omega arith) (digits-lt {q = j} {m = across} {r = i} {c = across} k h)
       ∙ ap₂ loads (digits-mod j {m = across} {r = i} h) (digits-div j {m = across} {r = i} h)
 
   pub table-light : Tiled rects amounts plan → across * across ≤ length before → Loads table across

@@ -1,12 +1,13 @@
 -- What 64 bits ask of a caller: no side past 2^20, and no amount above its tile's area. A buyer need not read it: no contract of the unit's
 -- public functions names it, and every accepted job has it.
-use Prim.Native.Nat.{ℕ, _+_, _*_, _≤_, _<_}
+use Prim.Native.Nat.{ℕ, suc, _+_, _*_, _≤_, _<_}
 use mathlib.Core.Path.{_≡_}
 use mathlib.Core.List.{List}
 use lib.ListN.{length, getD}
 use Rattle.geometry.specs.declared.Rect.{Rect}
-use Rattle.geometry.specs.Sizes.{widest}
+use Rattle.geometry.specs.Sizes.{widest, largest}
 use Rattle.geometry.specs.Layout.{Drawn}
+use Rattle.sweep.specs.Strips.{stripSum}
 use Rattle.fill.specs.declared.Plan.{Plan}
 use Rattle.fill.specs.Free.{Within}
 
@@ -57,6 +58,14 @@ pub record Tiled (rects amounts : List ℕ) (plan : Plan) : Type 0 where
   pub few : plan .across ≤ mostAcross
   pub table : length amounts ≡ plan .across * plan .across
   pub room : (i : ℕ) → getD amounts i 0 ≤ plan .side * plan .side
+  pub layout : plan .across * plan .side ≤ widest
+
+-- a row of such tiles, by its strip: a tile's load is no more than twice its area
+pub record RowTiled (lows highs amounts : List ℕ) (plan : Plan) (j : ℕ) : Type 0 where
+  pub few : plan .across ≤ mostAcross
+  pub row : j < plan .across
+  pub table : length amounts ≡ plan .across * plan .across
+  pub light : (i : ℕ) → i < plan .across → stripSum lows highs (i * plan .side) (suc i * plan .side) + getD amounts (j * plan .across + i) 0 ≤ 2 * largest
   pub layout : plan .across * plan .side ≤ widest
 
 -- a plan that is judged

@@ -8,6 +8,7 @@ use lib.Dec.{leb}
 use lib.ListN.{length, getD}
 use Rattle.geometry.specs.declared.Rect.{Rect}
 use Rattle.geometry.specs.Count.{boxSum}
+use Rattle.sweep.specs.Strips.{stripSum}
 use Rattle.fill.specs.declared.Plan.{Plan}
 use Rattle.fill.specs.declared.judging.Rule.{Rule}
 use Rattle.fill.specs.declared.Bound.the-variants.{Over, Under}
@@ -29,6 +30,11 @@ ruleOf plan =
 -- the load of tile number t, row by row
 abbrev pub loadOf : List Rect → List ℕ → Plan → ℕ → ℕ
 loadOf rs amounts plan t = load rs amounts plan (t % plan .across) (t / plan .across)
+
+-- the load of tile number t, where it lies in row j and the row's strip is at hand
+abbrev pub loadAlong : (lows highs amounts : List ℕ) → Plan → (j t : ℕ) → ℕ
+loadAlong lows highs amounts plan j t =
+    stripSum lows highs ((t - j * plan .across) * plan .side) (suc (t - j * plan .across) * plan .side) + getD amounts t 0
 
 -- the tiles whose load the upper bound is held to, and the lower bound
 abbrev pub tilesForUpper : Rule → (margin i j : ℕ) → TileBox
@@ -87,8 +93,9 @@ pub record IsStart (rule : Rule) (margin i j : ℕ) : Type 0 where
   pub columns : i + rule .cut ≤ rule .across
   pub rows : j + rule .cut ≤ rule .across
 
--- the numbers before place n of a table are those of f, and the rest are as they were
-pub record Filled (f : ℕ → ℕ) (before table : List ℕ) (n : ℕ) : Type 0 where
+-- the numbers of a table from one place to before another are those of f, and the rest are as they were
+pub record Filled (f : ℕ → ℕ) (before table : List ℕ) (from to : ℕ) : Type 0 where
   pub size : length table ≡ length before
-  pub set : (k : ℕ) → k < n → getD table k 0 ≡ f k
-  pub rest : (k : ℕ) → n ≤ k → getD table k 0 ≡ getD before k 0
+  pub set : (k : ℕ) → from ≤ k → k < to → getD table k 0 ≡ f k
+  pub below : (k : ℕ) → k < from → getD table k 0 ≡ getD before k 0
+  pub rest : (k : ℕ) → to ≤ k → getD table k 0 ≡ getD before k 0

@@ -5,6 +5,7 @@ ghost use Prim.Native.Nat.{suc, _*_, _≤_};
 ghost use mathlib.Core.Path.{_≡_};
 ghost use Rattle.geometry.specs.Sizes.{widest};
 ghost use Rattle.geometry.specs.Layout.{rectsOf};
+ghost use Rattle.sweep.specs.Order.{sideOrder};
 ghost use Rattle.fill.specs.Eligible.{tile, fillableArea};
 ghost use Rattle.fill.specs.Judge.{verdictOf};
 ghost use Rattle.fill.specs.Sizes.{SmallBox, Planned};
@@ -67,13 +68,15 @@ pub fn fillable(rects: &[u64], gap: u64, b: Rect) -> u64
     free::free_from(rects, gap, 0, b)
 }
 
-// The verdict on a table of amounts, one to a tile, row by row.
-pub fn judge(rects: &[u64], amounts: &[u64], plan: Plan) -> Verdict
+// The verdict on a table of amounts, one to a tile, row by row. The order of the
+// sides is lent, as for the exact run.
+pub fn judge(rects: &[u64], order: &[usize], amounts: &[u64], plan: Plan) -> Verdict
     requires { ⌜ Planned (now rects) (now amounts) plan ⌝ }
+    requires { ⌜ now order ≡ sideOrder (now rects) ⌝ }
     ensures { λ v. ⌜ v ≡ verdictOf (rectsOf (now (rects .entry))) (now (amounts .entry)) plan ⌝ }
 {
     let mut table = [0u64; TILES_ROOM];
-    tiling::set_loads(rects, amounts, plan, &mut table);
+    tiling::set_loads(rects, order, amounts, plan, &mut table);
     judging::judge_loads(
         &table,
         judging::Rule {

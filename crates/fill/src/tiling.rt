@@ -1,36 +1,76 @@
-// The loads of all tiles.
+// The loads of all tiles, one row of tiles at a time.
 use crate::Plan;
-use crate::tile_box;
-use geometry::cover_of;
-ghost use Prim.Native.Nat.{_*_, _≤_, _<_};
+use sweep::STRIP_ROOM;
+ghost use Prim.Native.Nat.{suc, _*_, _≤_, _<_};
 ghost use mathlib.Core.Path.{_≡_};
 ghost use lib.ListN.{length};
 ghost use Rattle.geometry.specs.Layout.{rectsOf};
-ghost use Rattle.fill.specs.Sizes.{Tiled};
-ghost use Rattle.fill.specs.Windows.{loadOf, Filled};
+ghost use Rattle.sweep.specs.Order.{sideOrder};
+ghost use Rattle.sweep.specs.Strips.{stripRoom, Strip};
+ghost use Rattle.fill.specs.Sizes.{Tiled, RowTiled};
+ghost use Rattle.fill.specs.Windows.{loadOf, loadAlong, Filled};
 
-// The load of tile number t, row by row.
-fn load_at(rects: &[u64], amounts: &[u64], plan: Plan, t: u64) -> u64
-    requires { ⌜ Tiled (now rects) (now amounts) plan ⌝ }
-    requires { ⌜ t < plan .across * plan .across ⌝ }
-    ensures { λ r. ⌜ r ≡ loadOf (rectsOf (now (rects .entry))) (now (amounts .entry)) plan t ⌝ }
+// Writes the loads of the tiles of row j, by its strip.
+fn set_row(lows: &[u64], highs: &[u64], amounts: &[u64], plan: Plan, j: u64, out: &mut [u64])
+    requires { ⌜ Strip (now lows) (now highs) ⌝ }
+    requires { ⌜ RowTiled (now lows) (now highs) (now amounts) plan j ⌝ }
+    requires { ⌜ plan .across * plan .across ≤ length (now out) ⌝ }
+    ensures { λ _. ⌜ Filled (loadAlong (now (lows .entry)) (now (highs .entry)) (now (amounts .entry)) plan j) (now (out .entry)) (now (out .exit)) (j * plan .across) (suc j * plan .across) ⌝ }
 {
-    let i = t % plan.across;
-    let j = t / plan.across;
-    let cover = cover_of(rects, tile_box(plan.side, i, j));
-    cover.area + amounts[t as usize]
+    let side = plan.side;
+    let first = j * plan.across;
+    let mut frame = sweep::start_frame();
+    let mut i: u64 = 0;
+    while i < plan.across {
+        frame = sweep::move_to(lows, highs, frame, i * side, (i + 1) * side);
+        let t = (first + i) as usize;
+        out[t] = frame.area + amounts[t];
+        i += 1;
+    }
+}
+
+// The same by the rectangles.
+fn set_row_at(
+    rects: &[u64],
+    order: &[usize],
+    amounts: &[u64],
+    plan: Plan,
+    j: u64,
+    out: &mut [u64],
+    lows: &mut [u64],
+    highs: &mut [u64],
+)
+    requires { ⌜ Tiled (now rects) (now amounts) plan ⌝ }
+    requires { ⌜ (now order ≡ sideOrder (now rects)) × (j < plan .across) ⌝ }
+    requires { ⌜ plan .across * plan .across ≤ length (now out) ⌝ }
+    requires { ⌜ (stripRoom ≤ length (now lows)) × (stripRoom ≤ length (now highs)) ⌝ }
+    ensures { λ _. ⌜ Filled (loadOf (rectsOf (now (rects .entry))) (now (amounts .entry)) plan) (now (out .entry)) (now (out .exit)) (j * plan .across) (suc j * plan .across) ⌝ }
+{
+    let low = j * plan.side;
+    let lengths = sweep::strip(rects, order, low, low + plan.side, lows, highs);
+    let count = lengths.low;
+    let more = lengths.high;
+    set_row(&lows[..count], &highs[..more], amounts, plan, j, out);
 }
 
 // Writes the load of each tile at the front of a table, row by row.
-pub(crate) fn set_loads(rects: &[u64], amounts: &[u64], plan: Plan, out: &mut [u64])
+pub(crate) fn set_loads(
+    rects: &[u64],
+    order: &[usize],
+    amounts: &[u64],
+    plan: Plan,
+    out: &mut [u64],
+)
     requires { ⌜ Tiled (now rects) (now amounts) plan ⌝ }
+    requires { ⌜ now order ≡ sideOrder (now rects) ⌝ }
     requires { ⌜ plan .across * plan .across ≤ length (now out) ⌝ }
-    ensures { λ _. ⌜ Filled (loadOf (rectsOf (now (rects .entry))) (now (amounts .entry)) plan) (now (out .entry)) (now (out .exit)) (plan .across * plan .across) ⌝ }
+    ensures { λ _. ⌜ Filled (loadOf (rectsOf (now (rects .entry))) (now (amounts .entry)) plan) (now (out .entry)) (now (out .exit)) 0 (plan .across * plan .across) ⌝ }
 {
-    let count = plan.across * plan.across;
-    let mut t: u64 = 0;
-    while t < count {
-        out[t as usize] = load_at(rects, amounts, plan, t);
-        t += 1;
+    let mut lows = [0u64; STRIP_ROOM];
+    let mut highs = [0u64; STRIP_ROOM];
+    let mut j: u64 = 0;
+    while j < plan.across {
+        set_row_at(rects, order, amounts, plan, j, out, &mut lows, &mut highs);
+        j += 1;
     }
 }

@@ -11,35 +11,35 @@ use Rattle.fill.proofs.judge.Tie as tie
 
 set-loads-requires : tie.Need-set-loads-requires
 set-loads-requires c κs =
-    let s = c .before .before .before in
-    (s .pre .tiled, tiles-few (s .args .plan .across) (s .pre .tiled .few))
+    let s = c .before .before .before .before in
+    (s .pre .0 .tiled, (s .pre .1, tiles-few (s .args .plan .across) (s .pre .0 .tiled .few)))
 
 judge-loads-requires : tie.Need-judge-loads-requires
 judge-loads-requires c κs =
-    let s = c .before .before .before .before .before .before .before .before .before .before in
-    let few = tiles-few (s .args .plan .across) (s .pre .tiled .few) in
-    (table-light _ _ _ _ _ (c .before .before .before .before .before .before .set-loads .ensures) (s .pre .tiled) few, s .pre .fits)
+    let s = c .before .before .before .before .before .before .before .before .before .before .before in
+    let few = tiles-few (s .args .plan .across) (s .pre .0 .tiled .few) in
+    (table-light _ _ _ _ _ (c .before .before .before .before .before .before .set-loads .ensures) (s .pre .0 .tiled) few, s .pre .0 .fits)
 
 returns : tie.Need-returns
 returns c =
-    let s = c .before .before .before .before .before .before .before .before .before .before .before in
+    let s = c .before .before .before .before .before .before .before .before .before .before .before .before in
     let a = s .args in
-    c .judge-loads .ensures ∙ table-verdict (a .rects .now) (a .amounts .now) (a .plan) _ _ (c .before .before .before .before .before .before .before .set-loads .ensures) (s .pre .fits)
+    c .judge-loads .ensures ∙ table-verdict (a .rects .now) (a .amounts .now) (a .plan) _ _ (c .before .before .before .before .before .before .before .set-loads .ensures) (s .pre .0 .fits)
 
 lower-fits : (s : tie.Start) → let p = s .args .plan in
     (p .lower * p .window ≤ topBound * widest) × (p .lower * p .window * p .window ≤ topBound * widest * widest)
-lower-fits s = let p = s .args .plan in bound-fits (p .lower) (p .window) (s .pre .lower) (s .pre .window)
+lower-fits s = let p = s .args .plan in bound-fits (p .lower) (p .window) (s .pre .0 .lower) (s .pre .0 .window)
 
 upper-fits : (s : tie.Start) → let p = s .args .plan in
     (p .upper * p .window ≤ topBound * widest) × (p .upper * p .window * p .window ≤ topBound * widest * widest)
-upper-fits s = let p = s .args .plan in bound-fits (p .upper) (p .window) (s .pre .upper) (s .pre .window)
+upper-fits s = let p = s .args .plan in bound-fits (p .upper) (p .window) (s .pre .0 .upper) (s .pre .0 .window)
 
 pub judge-spec : {M : Type 1} → statement M
 judge-spec =
     tie.close
     (tie.spec (λ c. search needs) set-loads-requires (λ c. search needs)
-    (λ c. omega (arith, lower-fits (c .before .before .before .before .before .before .before)))
     (λ c. omega (arith, lower-fits (c .before .before .before .before .before .before .before .before)))
-    (λ c. omega (arith, upper-fits (c .before .before .before .before .before .before .before .before .before)))
+    (λ c. omega (arith, lower-fits (c .before .before .before .before .before .before .before .before .before)))
     (λ c. omega (arith, upper-fits (c .before .before .before .before .before .before .before .before .before .before)))
+    (λ c. omega (arith, upper-fits (c .before .before .before .before .before .before .before .before .before .before .before)))
     judge-loads-requires returns)
