@@ -6,21 +6,24 @@ use geometry::Sense;
 use geometry::Spot;
 use jobfile::Head;
 use jobfile::Job;
+use sweep::ORDER_ROOM;
 use zoom::Asked;
 ghost use mathlib.Core.Path.{_≡_};
 ghost use Rattle.jobfile.specs.Limits.{unitLimits};
 ghost use Rattle.jobfile.specs.File.{outcomeOf};
+ghost use Rattle.sweep.specs.Strips.{Swept};
 ghost use Rattle.extremes.specs.Exact.{extremeIn};
 ghost use Rattle.unit.specs.Answering.{answerOf, quickIn};
 ghost use Rattle.unit.specs.Ready.{Ready, Readable, standingOf, jobStanding};
 ghost use Rattle.phases.specs.Phase.{verdictNumber, phaseNumber, phaseOf};
 
 // The exact run: the greatest area.
-fn greatest_area(head: Head, rects: &[u64], amounts: &[u64]) -> u64
+fn greatest_area(head: Head, rects: &[u64], order: &[usize], amounts: &[u64]) -> u64
     requires { ⌜ Ready head (now rects) (now amounts) ⌝ }
+    requires { ⌜ Swept (now rects) (now order) ⌝ }
     ensures { λ r. ⌜ r ≡ answerOf (standingOf head (now (rects .entry)) (now (amounts .entry))) .exact .greatest .area ⌝ }
 {
-    let exact = extremes::exact_run(rects, head.size, head.window);
+    let exact = extremes::exact_run(rects, order, head.size, head.window);
     exact.greatest.area
 }
 
@@ -34,13 +37,14 @@ fn extreme_in(sense: Sense, e: Extremes) -> Spot
 }
 
 // The exact run and the quick run for an extreme: the ceiling or the low end.
-fn limit(sense: Sense, head: Head, rects: &[u64], amounts: &[u64]) -> u64
+fn limit(sense: Sense, head: Head, rects: &[u64], order: &[usize], amounts: &[u64]) -> u64
     requires { ⌜ Ready head (now rects) (now amounts) ⌝ }
+    requires { ⌜ Swept (now rects) (now order) ⌝ }
     ensures { λ r. ⌜ r ≡ quickIn sense (answerOf (standingOf head (now (rects .entry)) (now (amounts .entry)))) .last .limit ⌝ }
 {
     let size = head.size;
     let window = head.window;
-    let exact = extremes::exact_run(rects, size, window);
+    let exact = extremes::exact_run(rects, order, size, window);
     let m = extreme_in(sense, exact);
     let asked = Asked {
         size,
@@ -48,7 +52,7 @@ fn limit(sense: Sense, head: Head, rects: &[u64], amounts: &[u64]) -> u64
         accuracy: head.accuracy,
         levels: head.levels,
     };
-    let quick = zoom::quick_run(sense, rects, asked, m);
+    let quick = zoom::quick_run(sense, rects, order, asked, m);
     quick.last.limit
 }
 
@@ -63,30 +67,51 @@ fn number_of(v: Verdict) -> u64
 }
 
 // The verdict, as a number.
-fn judged_number(head: Head, rects: &[u64], amounts: &[u64]) -> u64
+fn judged_number(head: Head, rects: &[u64], order: &[usize], amounts: &[u64]) -> u64
     requires { ⌜ Ready head (now rects) (now amounts) ⌝ }
+    requires { ⌜ Swept (now rects) (now order) ⌝ }
     ensures { λ r. ⌜ r ≡ verdictNumber (answerOf (standingOf head (now (rects .entry)) (now (amounts .entry))) .verdict) ⌝ }
 {
-    number_of(fill::judge(rects, amounts, jobfile::plan_of(head)))
+    number_of(fill::judge(rects, order, amounts, jobfile::plan_of(head)))
 }
 
+fn ordered_phase(
+    phase: u64,
+    head: Head,
+    rects: &[u64],
+    order: &[usize],
+    amounts: &[u64],
+) -> u64
+    requires { ⌜ Ready head (now rects) (now amounts) ⌝ }
+    requires { ⌜ Swept (now rects) (now order) ⌝ }
+    ensures { λ r. ⌜ r ≡ phaseNumber phase (answerOf (standingOf head (now (rects .entry)) (now (amounts .entry)))) ⌝ }
+{
+    if phase == 1 {
+        return greatest_area(head, rects, order, amounts);
+    }
+    if phase == 2 {
+        return limit(Sense::Greatest, head, rects, order, amounts);
+    }
+    if phase == 3 {
+        return limit(Sense::Least, head, rects, order, amounts);
+    }
+    if phase == 4 {
+        return judged_number(head, rects, order, amounts);
+    }
+    0
+}
+
+// Sorting the sides counts with the phases that need it, and not with reading.
 fn phase_number(phase: u64, head: Head, rects: &[u64], amounts: &[u64]) -> u64
     requires { ⌜ Ready head (now rects) (now amounts) ⌝ }
     ensures { λ r. ⌜ r ≡ phaseNumber phase (answerOf (standingOf head (now (rects .entry)) (now (amounts .entry)))) ⌝ }
 {
-    if phase == 1 {
-        return greatest_area(head, rects, amounts);
+    if phase == 0 {
+        return 0;
     }
-    if phase == 2 {
-        return limit(Sense::Greatest, head, rects, amounts);
-    }
-    if phase == 3 {
-        return limit(Sense::Least, head, rects, amounts);
-    }
-    if phase == 4 {
-        return judged_number(head, rects, amounts);
-    }
-    0
+    let mut order = [0usize; ORDER_ROOM];
+    let count = sweep::order_sides(rects, &mut order);
+    ordered_phase(phase, head, rects, &order[..count], amounts)
 }
 
 fn job_phase(phase: u64, job: Job) -> u64

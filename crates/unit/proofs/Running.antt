@@ -10,6 +10,7 @@ use Rattle.geometry.specs.declared.Sense.the-variants.{Greatest, Least}
 use Rattle.geometry.specs.Sizes.{largest}
 use Rattle.geometry.specs.Layout.{rectsOf}
 use Rattle.extremes.specs.declared.Extremes.{Extremes}
+use Rattle.sweep.specs.Strips.{Swept}
 use Rattle.extremes.specs.Exact.{Position, extreme, exactRun}
 use Rattle.extremes.proofs.Promises.{extreme-over-all}
 use Rattle.zoom.specs.declared.Quick.{Quick}
@@ -37,11 +38,11 @@ module _ (h : Head) (rects amounts : List ℕ) where
   quick s = quickOf s (standingOf h rects amounts)
 
   -- what a quick run asks, after the exact run
-  pub runnable : (s : Sense) → Ready h rects amounts → {m : Spot} → m ≡ extreme s (rectsOf rects) (h .size) (h .window) →
-      Runnable s rects (record { size = h .size; window = h .window; accuracy = h .accuracy; levels = h .levels }) m
-  runnable s r e =
+  pub runnable : (s : Sense) → Ready h rects amounts → (order : List ℕ) → Swept rects order → {m : Spot} → m ≡ extreme s (rectsOf rects) (h .size) (h .window) →
+      Runnable s rects order (record { size = h .size; window = h .window; accuracy = h .accuracy; levels = h .levels }) m
+  runnable s r order z e =
       record {
-        drawn = r .drawn;
+        swept = z;
         some-window = r .some-window;
         window-fits = r .window-fits;
         small = r .small;

@@ -4,10 +4,12 @@ use fill::Verdict;
 use geometry::Sense;
 use geometry::Spot;
 use jobfile::Head;
+use sweep::ORDER_ROOM;
 use zoom::Asked;
 use zoom::Quick;
 ghost use mathlib.Core.Path.{_≡_};
 ghost use Rattle.geometry.specs.Layout.{rectsOf, Drawn};
+ghost use Rattle.sweep.specs.Strips.{Swept};
 ghost use Rattle.extremes.specs.Exact.{windowShapes};
 ghost use Rattle.unit.specs.Answering.{countsOf, answerOf};
 ghost use Rattle.unit.specs.Ready.{SmallSpot, SmallSpots, Ready, standingOf};
@@ -59,15 +61,16 @@ fn counts_of(rects: &[u64], w: u64, exact: Extremes, greatest: Quick, least: Qui
     }
 }
 
-// The answer to a job. The exact run's windows are handed to the quick runs, so
-// that nothing is searched twice.
-pub(crate) fn run(head: Head, rects: &[u64], amounts: &[u64]) -> Answer
+// The answer to a job, by the order of its sides. The exact run's windows are
+// handed to the quick runs, so that nothing is searched twice.
+fn run_ordered(head: Head, rects: &[u64], order: &[usize], amounts: &[u64]) -> Answer
     requires { ⌜ Ready head (now rects) (now amounts) ⌝ }
+    requires { ⌜ Swept (now rects) (now order) ⌝ }
     ensures { λ r. ⌜ r ≡ answerOf (standingOf head (now (rects .entry)) (now (amounts .entry))) ⌝ }
 {
     let size = head.size;
     let window = head.window;
-    let exact = extremes::exact_run(rects, size, window);
+    let exact = extremes::exact_run(rects, order, size, window);
     let max = exact.greatest;
     let min = exact.least;
     let asked = Asked {
@@ -76,11 +79,11 @@ pub(crate) fn run(head: Head, rects: &[u64], amounts: &[u64]) -> Answer
         accuracy: head.accuracy,
         levels: head.levels,
     };
-    let greatest = zoom::quick_run(Sense::Greatest, rects, asked, max);
-    let least = zoom::quick_run(Sense::Least, rects, asked, min);
+    let greatest = zoom::quick_run(Sense::Greatest, rects, order, asked, max);
+    let least = zoom::quick_run(Sense::Least, rects, order, asked, min);
     let counts = counts_of(rects, window, exact, greatest, least);
     let density = zoom::density(window, greatest.last.named.area, greatest.last.limit);
-    let verdict = fill::judge(rects, amounts, jobfile::plan_of(head));
+    let verdict = fill::judge(rects, order, amounts, jobfile::plan_of(head));
     Answer {
         exact,
         greatest,
@@ -89,4 +92,14 @@ pub(crate) fn run(head: Head, rects: &[u64], amounts: &[u64]) -> Answer
         density,
         verdict,
     }
+}
+
+// The answer to a job. Its sides are sorted once, for all runs.
+pub(crate) fn run(head: Head, rects: &[u64], amounts: &[u64]) -> Answer
+    requires { ⌜ Ready head (now rects) (now amounts) ⌝ }
+    ensures { λ r. ⌜ r ≡ answerOf (standingOf head (now (rects .entry)) (now (amounts .entry))) ⌝ }
+{
+    let mut order = [0usize; ORDER_ROOM];
+    let count = sweep::order_sides(rects, &mut order);
+    run_ordered(head, rects, &order[..count], amounts)
 }

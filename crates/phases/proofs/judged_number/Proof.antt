@@ -9,12 +9,12 @@ use Rattle.phases.proofs.judged_number.Tie as tie
 
 judge-requires : tie.Need-judge-requires
 judge-requires c κs =
-    let s = c .before .before .before in
-    planned (s .args .head) (s .args .rects .now) (s .args .amounts .now) (s .pre) (c .plan-of .ensures)
+    let s = c .before .before .before .before in
+    (planned (s .args .head) (s .args .rects .now) (s .args .amounts .now) (s .pre .0) (c .plan-of .ensures), s .pre .1 .ordered)
 
 returns : tie.Need-returns
 returns c =
-    let a = c .before .before .before .before .before .args in
+    let a = c .before .before .before .before .before .before .args in
     c .number-of .ensures
     ∙ ap verdictNumber (verdict-at (a .head) (a .rects .now) (a .amounts .now) (c .before .before .plan-of .ensures) (c .before .judge .ensures))
 

@@ -12,14 +12,14 @@ use Rattle.phases.proofs.limit.Tie as tie
 
 quick-run-requires : tie.Need-quick-run-requires
 quick-run-requires c κs =
-    let s = c .before .before .before .before in
+    let s = c .before .before .before .before .before in
     let h = s .args .head in
-    runnable h (s .args .rects .now) (s .args .amounts .now) (s .args .sense) (s .pre)
+    runnable h (s .args .rects .now) (s .args .amounts .now) (s .args .sense) (s .pre .0) (s .args .order .now) (s .pre .1)
     (c .extreme-in .ensures ∙ ap (extremeIn (s .args .sense)) (c .before .exact-run .ensures) ∙ exact-in (s .args .sense) (rectsOf (s .args .rects .now)) (h .size) (h .window))
 
 returns : tie.Need-returns
 returns c =
-    let s = c .before .before .before .before .before in
+    let s = c .before .before .before .before .before .before in
     ap (λ (q : Quick). q .last .limit)
     (c .quick-run .ensures ∙ quick-in (s .args .sense) (standingOf (s .args .head) (s .args .rects .now) (s .args .amounts .now)))
 

@@ -1,30 +1,14 @@
 -- `phases::phase_number` meets its contract. Assumes nothing.
+use mathlib.Core.Path.{refl}
 use borrow.Author.Needs.{needs}
-use Rattle.unit.specs.Answering.{answerOf}
-use Rattle.unit.specs.Ready.{standingOf}
-use Rattle.phases.proofs.Laws.{other-phase, told-phase}
+use Rattle.buffers.proofs.Fronts.{front-fits, front-count}
+use Rattle.sweep.proofs.Sorted.{order-room, order-lent}
+use Rattle.phases.proofs.Laws.{told-phase}
 use Rattle.phases.proofs.phase_number.Statement.{statement}
 use Rattle.phases.proofs.phase_number.Tie as tie
-
-returns : tie.Need-returns
-returns c = told-phase _ 1 _ (c .before .if1 .taken) (c .greatest-area .ensures)
-
-returns-2 : tie.Need-returns-2
-returns-2 c = told-phase _ 2 _ (c .before .if2 .taken) (c .limit .ensures)
-
-returns-3 : tie.Need-returns-3
-returns-3 c = told-phase _ 3 _ (c .before .if3 .taken) (c .limit2 .ensures)
-
-returns-4 : tie.Need-returns-4
-returns-4 c = told-phase _ 4 _ (c .before .if4 .taken) (c .judged-number .ensures)
-
-returns-5 : tie.Need-returns-5
-returns-5 c =
-    let s = c .before .before .before .before .before .before in
-    other-phase (s .args .phase) (answerOf (standingOf (s .args .head) (s .args .rects .now) (s .args .amounts .now)))
-    (c .before .before .before .if1 .left) (c .before .before .if2 .left) (c .before .if3 .left) (c .if4 .left)
 
 pub phase-number-spec : {M : Type 1} → statement M
 phase-number-spec =
     tie.close
-    (tie.spec (λ c κs. search needs) returns (λ c κs. search needs) returns-2 (λ c κs. search needs) returns-3 (λ c κs. search needs) returns-4 returns-5)
+    (tie.spec (λ c. told-phase _ 0 _ (c .if1 .taken) refl) (λ c. search needs) (λ c κs. search order-room) (λ c. search front-fits) (λ c. search front-count)
+    (λ c κs. search (needs, order-lent)) (λ c. search needs))

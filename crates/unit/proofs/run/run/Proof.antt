@@ -1,55 +1,12 @@
 -- `unit::run::run` meets its contract. Assumes nothing.
 use borrow.Author.Needs.{needs}
-use mathlib.Core.Path.{ap}
-use Rattle.geometry.specs.declared.Sense.the-variants.{Greatest, Least}
-use Rattle.extremes.specs.declared.Extremes.{Extremes}
-use Rattle.unit.proofs.Running.{runnable, spots-small, bracket-small, planned, answer-is}
+use Rattle.buffers.proofs.Fronts.{front-fits, front-count}
+use Rattle.sweep.proofs.Sorted.{order-room, order-lent}
 use Rattle.unit.proofs.run.run.Statement.{statement}
 use Rattle.unit.proofs.run.run.Tie as tie
-
-quick-run-requires : tie.Need-quick-run-requires
-quick-run-requires c κs =
-    let s = c .before .before .before .before .before in
-    runnable (s .args .head) (s .args .rects .now) (s .args .amounts .now) Greatest (s .pre) (ap (λ (x : Extremes). x .greatest) (c .before .before .exact-run .ensures))
-
-quick-run-requires-2 : tie.Need-quick-run-requires-2
-quick-run-requires-2 c κs =
-    let s = c .before .before .before .before .before .before in
-    runnable (s .args .head) (s .args .rects .now) (s .args .amounts .now) Least (s .pre) (ap (λ (x : Extremes). x .least) (c .before .before .before .exact-run .ensures))
-
-counts-of-requires : tie.Need-counts-of-requires
-counts-of-requires c κs =
-    let s = c .before .before .before .before .before .before .before in
-    let exact = c .before .before .before .before .exact-run in
-    let greatest = c .before .quick-run in (
-      s .pre .drawn,
-      spots-small (s .args .head) (s .args .rects .now) (s .args .amounts .now) (s .pre) (exact .result) (greatest .result) (c .quick-run2 .result) (exact .ensures) (greatest .ensures) (c .quick-run2 .ensures),
-    )
-
-density-requires : tie.Need-density-requires
-density-requires c κs =
-    let s = c .before .before .before .before .before .before .before .before in
-    bracket-small (s .args .head) (s .args .rects .now) (s .args .amounts .now) (s .pre) (c .before .before .quick-run .result) (c .before .before .quick-run .ensures)
-
-judge-requires : tie.Need-judge-requires
-judge-requires c κs =
-    let s = c .before .before .before .before .before .before .before .before .before .before in
-    planned (s .args .head) (s .args .rects .now) (s .args .amounts .now) (s .pre) (c .plan-of .ensures)
-
-returns : tie.Need-returns
-returns c =
-    let s = c .before .before .before .before .before .before .before .before .before .before .before in
-    let exact = c .before .before .before .before .before .before .before .before .exact-run in
-    let greatest = c .before .before .before .before .before .quick-run in
-    let least = c .before .before .before .before .quick-run2 in
-    let counts = c .before .before .before .counts-of in
-    let density = c .before .before .density in
-    let plan = c .before .plan-of in
-    answer-is (s .args .head) (s .args .rects .now) (s .args .amounts .now)
-    (exact .result) (greatest .result) (least .result) (counts .result) (density .result) (plan .result) (c .judge .result)
-    (exact .ensures) (greatest .ensures) (least .ensures) (counts .ensures) (density .ensures) (plan .ensures) (c .judge .ensures)
 
 pub run-spec : {M : Type 1} → statement M
 run-spec =
     tie.close
-    (tie.spec (λ c κs. search needs) quick-run-requires quick-run-requires-2 counts-of-requires density-requires (λ c κs. search needs) judge-requires returns)
+    (tie.spec (λ c. search needs) (λ c κs. search order-room) (λ c. search front-fits) (λ c. search front-count) (λ c κs. search (needs, order-lent))
+    (λ c. search needs))
