@@ -1,6 +1,7 @@
 //! The proved library through its C entries, beside the second implementation.
 
 pub mod plain;
+pub mod timing;
 
 use reference::answer::{Reply, ANSWER_ROOM};
 

@@ -1,61 +1,134 @@
-//! The exact run as a plain Rust loop over the same candidates as the proved
-//! one tries: for each y the rectangles that meet the row, for each x their sum.
+//! The exact run as two plain Rust loops, to measure the proved run by.
+//!
+//! Both try the positions that the proved run tries and add anew at each of
+//! them: one the rectangles of the window's strip, the other all of the job.
 
 use reference::job::Job;
+use reference::sense::Sense;
 
-/// The sum of the greatest and the least area, so that neither search is idle.
-pub fn exact_run(job: &Job) -> u64 {
-    extreme(job, true) + extreme(job, false)
+/// Low and high side of a rectangle or a window on one axis.
+type Sides = [u64; 2];
+
+/// The greatest and the least area, summed over the strip at each position.
+pub fn summing_strips(job: &Job) -> [u64; 2] {
+    extremes(job, Strip::area)
 }
 
-fn extreme(job: &Job, greatest: bool) -> u64 {
-    let columns = candidates(job, 0, greatest);
-    let mut best = None;
-    for y in candidates(job, 1, greatest) {
-        let strip = strip(job, y);
-        for &x in &columns {
-            let area = strip_area(&strip, x, x + job.window);
-            best = match best {
-                Some(old) if greatest == (area <= old) => Some(old),
-                _ => Some(area),
-            };
+/// The greatest and the least area, summed over all rectangles at each position.
+pub fn summing_all(job: &Job) -> [u64; 2] {
+    extremes(job, |strip, columns| {
+        let rects = job.rects.iter();
+        rects
+            .map(|&[x1, y1, x2, y2]| common([x1, x2], columns) * common([y1, y2], strip.rows))
+            .sum()
+    })
+}
+
+/// The extremes of both senses; `area` gives that of a strip's window by its
+/// columns.
+fn extremes(job: &Job, area: impl Fn(&Strip, Sides) -> u64) -> [u64; 2] {
+    Sense::BOTH.map(|sense| {
+        let rows = job.rects.iter().map(|&[_, y1, _, y2]| [y1, y2]);
+        let mut best = sense.worst();
+        for y in candidates(job, sense, rows) {
+            let strip = Strip::new(job, y);
+            let columns = strip.parts.iter().map(|part| part.columns);
+            let areas = candidates(job, sense, columns)
+                .into_iter()
+                .map(|x| area(&strip, [x, x + job.window]));
+            best = sense.best(best, areas);
+        }
+        best
+    })
+}
+
+/// 0, the last position, and where an edge of the window meets one of these
+/// sides, each once. At a first maximum the window's low edge meets a low side
+/// or its high edge a high side; at a first minimum it is the other way round.
+fn candidates(job: &Job, sense: Sense, sides: impl Iterator<Item = Sides>) -> Vec<u64> {
+    let last = job.last_position();
+    let mut positions = vec![0, last];
+    for [low, high] in sides {
+        let (at_low_edge, at_high_edge) = match sense {
+            Sense::Greatest => (low, high),
+            Sense::Least => (high, low),
+        };
+        positions.push(at_low_edge);
+        positions.extend(at_high_edge.checked_sub(job.window));
+    }
+    positions.retain(|&position| position <= last);
+    positions.sort_unstable();
+    positions.dedup();
+    positions
+}
+
+/// The rectangles that meet a window's rows. No other has a side where the area
+/// of a window in these rows bends, so they alone give its columns.
+struct Strip {
+    rows: Sides,
+    parts: Vec<Part>,
+}
+
+/// What a strip has of a rectangle.
+struct Part {
+    columns: Sides,
+    height: u64,
+}
+
+impl Strip {
+    fn new(job: &Job, y: u64) -> Strip {
+        let rows = [y, y + job.window];
+        let part = |&[x1, y1, x2, y2]: &[u64; 4]| Part {
+            columns: [x1, x2],
+            height: common([y1, y2], rows),
+        };
+        let parts = job.rects.iter().map(part);
+        Strip {
+            rows,
+            parts: parts.filter(|part| part.height > 0).collect(),
         }
     }
-    best.unwrap_or(0)
-}
 
-/// 0, the last position, and where an edge of the window meets a side, each
-/// once. At a first maximum the window's low edge meets a low side or its high
-/// edge a high side; at a first minimum it is the other way round.
-fn candidates(job: &Job, axis: usize, greatest: bool) -> Vec<u64> {
-    let last = job.last_position();
-    let (near, far) = if greatest {
-        (axis, axis + 2)
-    } else {
-        (axis + 2, axis)
-    };
-    let mut list = vec![0, last];
-    for rect in &job.rects {
-        list.push(rect[near]);
-        list.extend(rect[far].checked_sub(job.window));
+    fn area(&self, columns: Sides) -> u64 {
+        let parts = self.parts.iter();
+        parts
+            .map(|part| common(part.columns, columns) * part.height)
+            .sum()
     }
-    list.retain(|&position| position <= last);
-    list.sort_unstable();
-    list.dedup();
-    list
 }
 
-fn strip(job: &Job, y: u64) -> Vec<[u64; 3]> {
-    job.rects
-        .iter()
-        .map(|&[x1, y1, x2, y2]| [x1, x2, y2.min(y + job.window).saturating_sub(y1.max(y))])
-        .filter(|part| part[2] > 0)
-        .collect()
+/// The length that two pairs of sides have in common.
+fn common([low, high]: Sides, [other_low, other_high]: Sides) -> u64 {
+    high.min(other_high).saturating_sub(low.max(other_low))
 }
 
-fn strip_area(strip: &[[u64; 3]], x1: u64, x2: u64) -> u64 {
-    strip
-        .iter()
-        .map(|&[left, right, rows]| right.min(x2).saturating_sub(left.max(x1)) * rows)
-        .sum()
+#[cfg(test)]
+mod tests {
+    use super::*;
+    use crate::{on_large_stack, phase};
+    use reference::fast;
+    use reference::generate::{large_jobs, small_job, Random};
+
+    /// Holds both loops and the proved run to the second implementation.
+    fn compare_runs(file: &[u8]) {
+        let job = fast::read(file).expect("generated jobs are valid");
+        let exact = fast::exact_run(&job, &fast::drawn_cover(&job));
+        let areas = [exact.max.area, exact.min.area];
+        let shown = String::from_utf8_lossy(file);
+        assert_eq!(summing_strips(&job), areas, "{shown}");
+        assert_eq!(summing_all(&job), areas, "{shown}");
+        assert_eq!(phase(file, 1), exact.max.area, "{shown}");
+    }
+
+    #[test]
+    fn the_runs_agree() {
+        on_large_stack(|| {
+            for seed in 0..1000 {
+                compare_runs(&small_job(&mut Random::new(seed)));
+            }
+            for large in large_jobs() {
+                compare_runs(&large.job);
+            }
+        });
+    }
 }

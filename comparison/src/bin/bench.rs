@@ -1,17 +1,17 @@
 //! Times each phase of the proved unit on the heaviest legal jobs, and prints
-//! its ratio to the second implementation in the same run.
+//! its ratio to the second implementation in the same run; that of the exact run
+//! also to plain loops, whose times then stand in the second column.
 //!
 //! The library reads the job for every phase and does the exact run before
 //! either quick one, so a phase is the difference of two times. Every time is the
 //! least of several runs; a dash stands for one that noise hides.
 
+use comparison::timing::in_turn;
 use comparison::{on_large_stack, phase, plain};
 use reference::fast;
 use reference::generate::{large_jobs, LargeJob};
 use reference::job::Job;
 use reference::sense::Sense;
-use std::hint::black_box;
-use std::time::Instant;
 
 const RUNS: usize = 15;
 
@@ -50,30 +50,14 @@ struct Times {
     verdict: Milliseconds,
 }
 
-/// The time of one run, in milliseconds.
-fn time<T>(work: impl FnOnce() -> T) -> f64 {
-    let begun = Instant::now();
-    black_box(work());
-    begun.elapsed().as_secs_f64() * 1000.0
+/// The least times of several runs, the tasks in turn.
+fn least_times<T, const K: usize>(tasks: [impl Fn() -> T; K]) -> [f64; K] {
+    in_turn(RUNS, tasks).map(|sample| sample.least())
 }
 
-/// The least time of several runs.
-fn least_time<T>(mut work: impl FnMut() -> T) -> f64 {
-    (0..RUNS)
-        .map(|_| time(&mut work))
-        .fold(f64::INFINITY, f64::min)
-}
-
-/// The least times of some files' phases, in turn within a run so that a busy
-/// moment of the machine falls on all of them.
-fn least_phase_times<const K: usize>(tasks: [(&[u8], u64); K]) -> [f64; K] {
-    let mut least = [f64::INFINITY; K];
-    for _ in 0..RUNS {
-        for (best, (file, number)) in least.iter_mut().zip(tasks) {
-            *best = best.min(time(|| phase(file, number)));
-        }
-    }
-    least
+fn least_time<T>(task: impl Fn() -> T) -> f64 {
+    let [time] = least_times([task]);
+    time
 }
 
 fn proved_times(file: &[u8], unfilled_file: &[u8]) -> Times {
@@ -84,9 +68,10 @@ fn proved_times(file: &[u8], unfilled_file: &[u8]) -> Times {
         (file, 2),
         (file, 3),
         (file, 4),
-    ];
+    ]
+    .map(|(file, number)| move || phase(file, number));
     let [unfilled, reading, exact, exact_and_greatest, exact_and_least, verdict] =
-        least_phase_times(tasks);
+        least_times(tasks);
     Times {
         unfilled: above_noise(unfilled),
         fills: difference(reading, unfilled),
@@ -153,7 +138,8 @@ fn bench(large: &LargeJob) {
     let unfilled_file = without_fills(file);
     let proved = proved_times(file, &unfilled_file);
     let second = second_times(file, &unfilled_file, &job);
-    let plain = above_noise(least_time(|| plain::exact_run(&job)));
+    let strips = above_noise(least_time(|| plain::summing_strips(&job)));
+    let all = above_noise(least_time(|| plain::summing_all(&job)));
     println!("{} ({} bytes)", large.name, file.len());
     println!(
         "  {:28} {:>10} {:>10} {:>8}",
@@ -163,7 +149,8 @@ fn bench(large: &LargeJob) {
     print_row("fills, fillable areas", proved.fills, second.fills);
     print_row("reading in all", proved.reading, second.reading);
     print_row("exact run", proved.exact, second.exact);
-    print_row("  beside a plain loop", proved.exact, plain);
+    print_row("  beside summing strips", proved.exact, strips);
+    print_row("  beside summing all", proved.exact, all);
     print_row("quick run, greatest", proved.greatest, second.greatest);
     print_row("quick run, least", proved.least, second.least);
     print_row("verdict", proved.verdict, second.verdict);
