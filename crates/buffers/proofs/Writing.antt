@@ -3,7 +3,7 @@ use Prim.Native.Nat.{ℕ, _+_, _≤_, _<_}
 use mathlib.Core.Path.{_≡_, refl, sym, ap, ap₂, _∙_}
 use mathlib.Core.List.{List, [], _∷_, _++_, append-assoc, append-nil}
 use native.Mathlib.Nat.{add-zero}
-use native.Mathlib.Numerals.{add-one, add-two}
+use native.Mathlib.Numerals.{add-one}
 use native.Mathlib.Omega.{arith}
 use lib.ListN.{length, set, take, drop, length-append, length-drop, take-append-drop}
 use lib.Seq.{drop-drop, take-at, drop-append-add, set-split, sets-eq, length-take-le}
@@ -48,12 +48,9 @@ pub one-stored : (l : List ℕ) (at b : ℕ) → at < length l → Written l at 
 one-stored l at b h =
     record { buffer = set-split l at b h ∙ sym (append-assoc (take at l) (b ∷ []) (drop (at + 1) l) ∙ rw (add-one at)); place = refl }
 
--- two numbers stored, and three, and none
+-- two numbers stored, and none
 pub two-stored : (l : List ℕ) (at a b : ℕ) → at + 2 ≤ length l → Written l at (a ∷ b ∷ []) (set (set l at a) (at + 1) b) (at + 2)
 two-stored l at a b h = record { buffer = rw (add-one) (sets-eq (a ∷ b ∷ []) l at h); place = refl }
-
-pub three-stored : (l : List ℕ) (at a b c : ℕ) → at + 3 ≤ length l → Written l at (a ∷ b ∷ c ∷ []) (set (set (set l at a) (at + 1) b) (at + 2) c) (at + 3)
-three-stored l at a b c h = record { buffer = rw (add-one, add-two) (sets-eq (a ∷ b ∷ c ∷ []) l at h); place = refl }
 
 pub none-stored : (l : List ℕ) (at : ℕ) → Written l at [] l at
 none-stored l at = record { buffer = sym (written-none l at); place = sym (add-zero at) }

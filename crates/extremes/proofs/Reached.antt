@@ -1,8 +1,8 @@
 -- The positions that the search tries in a row have every candidate, and are positions alone. A row's candidates come from the rectangles that its
 -- windows reach, and these are the ones whose sides its strip lists.
 use Prim.Native.Nat.{ℕ, _+_, _-_, _*_, _≤_, _<_}
-use mathlib.Core.Path.{_≡_, refl, sym, ap, ap₂, _∙_, subst}
-use mathlib.Core.Bool.{Bool, true, false, _&&_}
+use mathlib.Core.Path.{_≡_, refl, sym, ap, ap₂, subst}
+use mathlib.Core.Bool.{Bool, true, false}
 use mathlib.Core.Logic.{_⊎_, inl, inr}
 use mathlib.Core.List.{List, [], _∷_, _++_, List·Memᴰ, List·Memᴰ·head, List·Memᴰ·tail, Memᴰ·append-left, Memᴰ·append-right, List·Memᴰ·append-cases, List·Memᴰ·cases-cons, List·Memᴰ·not-nil, List·Memᴰ·eq-of-singleton}
 use native.Mathlib.Nat.{add-zero}
@@ -23,7 +23,7 @@ use Rattle.sweep.specs.declared.Side.the-variants.{Low, High}
 use Rattle.sweep.specs.Order.{column}
 use Rattle.sweep.specs.Strips.{sideSum, stripSides}
 use Rattle.sweep.proofs.Covered.{strip-sum}
-use Rattle.extremes.specs.Search.{isReached, positionsOf, nearOf, farOf, triedIn, triedRow}
+use Rattle.extremes.specs.Search.{isReached, positionsOf, nearOf, farOf, triedRow}
 use Rattle.extremes.proofs.Candidates.{Meets, low-edge, high-edge, further, Candidate, at-start, at-end, at-side, nearColumn, farColumn}
 
 -- ---- how much meets a column

@@ -5,21 +5,14 @@ use mathlib.Core.Bool.{Bool, true, false}
 use mathlib.Core.List.{List, [], _∷_, _++_}
 use native.Mathlib.Numerals.{add-one}
 use lib.Dec.{ltb}
-use lib.ListN.{length, getD, take, drop, drop-of-length-le}
+use lib.ListN.{length, getD, drop, drop-of-length-le}
 use lib.Seq.{drop-cons}
 use borrow.Author.Tests.{lt-ltb, le-ltb, eq-eqb, ne-eqb}
 use Rattle.geometry.specs.declared.Spot.{Spot}
 use Rattle.geometry.specs.declared.Sense.{Sense}
 use Rattle.geometry.specs.Sizes.{widest, SmallList}
-use Rattle.geometry.specs.Layout.{rectsOf, Drawn}
-use Rattle.buffers.specs.Written.{Front}
-use Rattle.geometry.specs.Strips.{stripOf, stripSum, StripSmall}
 use Rattle.geometry.specs.Extreme.{better, spotAt}
-use Rattle.geometry.proofs.Overlaps.{strip-is-area}
-use Rattle.geometry.proofs.Strips.{strip-small}
-use Rattle.extremes.specs.Exact.{windowArea}
-use Rattle.extremes.specs.Search.{earlier, leads, leading, passed, leadingInRow, leadingInRows}
-use Rattle.buffers.proofs.Fronts.{front-take}
+use Rattle.extremes.specs.Search.{earlier, leads, leading, passed, leadingInRows}
 
 -- ---- which of two windows goes first
 

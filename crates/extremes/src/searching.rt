@@ -87,14 +87,7 @@ fn try_window(lows: &[u64], highs: &[u64], row: Row, x: u64, before: Tried) -> T
 
 // Tries the window whose edge meets a side: its low edge for a shift of 0, its
 // high edge for a shift of w.
-fn try_side(
-    lows: &[u64],
-    highs: &[u64],
-    row: Row,
-    side: u64,
-    shift: u64,
-    before: Tried,
-) -> Tried
+fn try_side(lows: &[u64], highs: &[u64], row: Row, side: u64, shift: u64, before: Tried) -> Tried
     requires { ⌜ Strip (now lows) (now highs) ⌝ }
     requires { ⌜ Reaches (now lows) (now highs) row side shift before ⌝ }
     requires { ⌜ SmallRow row ⌝ }

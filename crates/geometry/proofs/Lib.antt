@@ -3,5 +3,4 @@ pub mod Overlaps
 pub mod Tables
 pub mod Totals
 pub mod Extremes
-pub mod Strips
 pub mod Sharing

@@ -1,9 +1,9 @@
 -- The sums that the code forms count the covered unit squares: a rectangle shares with a box the product of the two lengths in common, and
 -- disjoint rectangles add up.
 use Prim.Native.Nat.{ℕ, zero, suc, _+_, _-_, _*_, _≤_, _<_}
-use mathlib.Core.Path.{_≡_, refl, sym, ap, ap₂, _∙_, subst}
+use mathlib.Core.Path.{_≡_, refl, ap, ap₂, _∙_}
 use mathlib.Core.Bool.{Bool, true, false, _&&_, _||_}
-use mathlib.Core.List.{List, [], _∷_, _++_}
+use mathlib.Core.List.{List, [], _∷_}
 use mathlib.Core.Logic.{_⊎_, inl, inr}
 use native.Mathlib.Nat.{add-zero}
 use native.Mathlib.Omega.{arith}
@@ -14,7 +14,6 @@ use Rattle.geometry.specs.declared.Rect.{Rect}
 use Rattle.geometry.specs.Count.{sum, span, boxSum, one-if, rectSum}
 use Rattle.geometry.specs.Layout.{holds, covered, coveredArea, sharesSquare, Disjoint}
 use Rattle.geometry.specs.Overlaps.{common, overlap, overlapSum}
-use Rattle.geometry.specs.Strips.{part, stripOf, stripSum}
 use Rattle.geometry.proofs.Counting.{box-cong, box-le, box-plus, box-const, box-product}
 
 -- ---- tests as counts
@@ -108,49 +107,6 @@ overlap-is-area (r ∷ rs) b d =
 pub shares-overlap : (r b : Rect) → sharesSquare (r ∷ []) b ≡ ltb 0 (overlap r b)
 unfolding covered Disjoint rectSum
 shares-overlap r b = ap (λ (k : ℕ). ltb 0 k) (overlap-is-area (r ∷ []) b (λ x y p q. q, tt) ∙ add-zero (overlap r b))
-
--- ---- strips
-
--- a rectangle's part of a strip, where it meets what is asked for and where it does not
-pub part-full : (met a b h : ℕ) → 0 < met → part met a b h ≡ a ∷ b ∷ h ∷ []
-part-full met a b h p = rw (lt-ltb 0 met p, part)
-
-pub part-none : (met a b h : ℕ) → met ≤ 0 → part met a b h ≡ []
-part-none met a b h p = rw (le-ltb 0 met p, part)
-
-pub part-either : (met a b h : ℕ) (P : List ℕ → Type 0) → (0 < met → P (a ∷ b ∷ h ∷ [])) → (met ≤ 0 → P []) → P (part met a b h)
-part-either met a b h P full none = go (le-or-lt met 0)
-  where
-    go : (met ≤ 0) ⊎ (0 < met) → P (part met a b h)
-    go (inl p) = subst P (sym (part-none met a b h p)) (none p)
-    go (inr p) = subst P (sym (part-full met a b h p)) (full p)
-
--- it adds what the rectangle has between two columns, if it is left out only where that is nothing
-pub part-sum : (met a b h : ℕ) (s : List ℕ) (x1 x2 : ℕ) → (met ≤ 0 → common a b x1 x2 * h ≡ 0) →
-    stripSum (part met a b h ++ s) x1 x2 ≡ common a b x1 x2 * h + stripSum s x1 x2
-unfolding stripSum
-part-sum met a b h s x1 x2 nothing =
-    part-either met a b h (λ l. stripSum (l ++ s) x1 x2 ≡ common a b x1 x2 * h + stripSum s x1 x2) (λ p. refl) (λ p. omega (arith, nothing p))
-
--- a strip's sum is the sum of overlaps with the box between its rows, disjoint or not
-pub strip-is-overlap : (rs : List Rect) (x1 y1 x2 y2 : ℕ) →
-    stripSum (stripOf rs y1 y2) x1 x2 ≡ overlapSum rs (record { x1 = x1; y1 = y1; x2 = x2; y2 = y2 })
-unfolding stripOf stripSum rectSum
-strip-is-overlap [] x1 y1 x2 y2 = refl
-strip-is-overlap (r ∷ rs) x1 y1 x2 y2 =
-    part-sum rows (r .x1) (r .x2) rows (stripOf rs y1 y2) x1 x2 (λ p. omega (arith, ap (λ (k : ℕ). common (r .x1) (r .x2) x1 x2 * k) (none p)))
-    ∙ ap (λ (k : ℕ). common (r .x1) (r .x2) x1 x2 * rows + k) (strip-is-overlap rs x1 y1 x2 y2)
-  where
-    rows : ℕ
-    rows = common (r .y1) (r .y2) y1 y2
-
-    none : rows ≤ 0 → rows ≡ 0
-    none p = omega arith
-
-pub strip-is-area : (rs : List Rect) (x1 y1 x2 y2 : ℕ) → Disjoint rs →
-    stripSum (stripOf rs y1 y2) x1 x2 ≡ coveredArea rs (record { x1 = x1; y1 = y1; x2 = x2; y2 = y2 })
-strip-is-area rs x1 y1 x2 y2 d =
-    strip-is-overlap rs x1 y1 x2 y2 ∙ sym (overlap-is-area rs (record { x1 = x1; y1 = y1; x2 = x2; y2 = y2 }) d)
 
 -- ---- bounds
 

@@ -16,7 +16,7 @@ use Rattle.geometry.specs.Overlaps.{rectAt}
 
 -- ---- the numbers at a place of a table
 
-pub three-at : (t : List ℕ) (i : ℕ) → i + 2 < length t → drop i t ≡ getD t i 0 ∷ getD t (i + 1) 0 ∷ getD t (i + 2) 0 ∷ drop (i + 3) t
+three-at : (t : List ℕ) (i : ℕ) → i + 2 < length t → drop i t ≡ getD t i 0 ∷ getD t (i + 1) 0 ∷ getD t (i + 2) 0 ∷ drop (i + 3) t
 three-at t i h =
     rw (add-one, add-two, add-three)
     (drop-cons t i 0 (omega arith)

@@ -1,20 +1,19 @@
--- Sums that a loop forms over a table, four numbers to a rectangle or three to a rectangle of a strip, and that 64 bits hold them.
+-- Sums that a loop forms over a table of rectangles, four numbers each, and that 64 bits hold them.
 use Prim.Native.Nat.{ℕ, _+_, _*_, _^_, _≤_, _<_}
-use mathlib.Core.Path.{_≡_, refl, sym, ap, ap₂, _∙_}
+use mathlib.Core.Path.{_≡_, sym, ap, ap₂, _∙_}
 use mathlib.Core.List.{List, [], _∷_}
 use native.Mathlib.Nat.{zero-add, mul-le-mul}
 use native.Mathlib.Omega.{arith}
 use lib.Dec.{ltb}
-use lib.ListN.{length, getD, drop, length-drop}
+use lib.ListN.{length, getD, drop}
 use Rattle.geometry.specs.declared.Rect.{Rect}
 use Rattle.geometry.specs.declared.Cover.{Cover}
 use Rattle.geometry.specs.Sizes.{widest, largest, SmallList}
 use Rattle.geometry.specs.Count.{one-if, rectSum}
 use Rattle.geometry.specs.Layout.{sharesSquare, shapesUnder, coverOf, rectsOf, Drawn}
 use Rattle.geometry.specs.Overlaps.{rectAt, common, overlap, overlapSum}
-use Rattle.geometry.specs.Strips.{stripSum, StripSmall}
 use Rattle.geometry.proofs.Overlaps.{one-if-small, overlap-is-area, shares-overlap}
-use Rattle.geometry.proofs.Tables.{three-at, rects-next, rects-end}
+use Rattle.geometry.proofs.Tables.{rects-next, rects-end}
 
 -- a sum over a table, part of it formed: `total` is what the numbers before place i add
 pub record SoFar (f : List ℕ → ℕ) (t : List ℕ) (total i : ℕ) : Type 0 where
@@ -88,32 +87,3 @@ cover-end t b total count i d s h =
     ap₂ {C = Cover} (λ (a n : ℕ). record { area = a; shapes = n })
     (rects-sum-end (λ r. overlap r b) t total i (s .area) h ∙ sym (overlap-is-area (rectsOf t) b (d .apart)))
     (rects-sum-end (λ r. one-if (sharesSquare (r ∷ []) b)) t count i (s .shapes) h)
-
--- what one rectangle of a strip has between two columns
-abbrev pub termAt : List ℕ → (i x1 x2 : ℕ) → ℕ
-termAt t i x1 x2 = common (getD t i 0) (getD t (i + 1) 0) x1 x2 * getD t (i + 2) 0
-
-pub term-small : (t : List ℕ) (i x1 x2 : ℕ) → StripSmall t → termAt t i x1 x2 ≤ largest
-term-small t i x1 x2 d =
-    small-product (common (getD t i 0) (getD t (i + 1) 0) x1 x2) (getD t (i + 2) 0) (common-small (getD t i 0) (getD t (i + 1) 0) x1 x2 (d .small (i + 1)))
-    (d .small (i + 2))
-
--- the sum of a strip: one rectangle more, and the end
-pub terms-next : (t : List ℕ) (x1 x2 total i v : ℕ) → StripSmall t → SoFar (λ s. stripSum s x1 x2) t total i → i + 2 < length t → v ≡ termAt t i x1 x2 →
-    SoFar (λ s. stripSum s x1 x2) t (total + v) (i + 3)
-unfolding stripSum
-terms-next t x1 x2 total i v d s h e =
-    rw e
-    (so-far-next (λ s. stripSum s x1 x2) t total i 3 (termAt t i x1 x2) s (ap (λ (l : List ℕ). stripSum l x1 x2) (three-at t i h))
-    (term-small t i x1 x2 d) (omega arith) (omega arith))
-
-short-strip : (s : List ℕ) (x1 x2 : ℕ) → length s ≤ 2 → stripSum s x1 x2 ≡ 0
-unfolding stripSum
-short-strip [] x1 x2 h = refl
-short-strip (a ∷ []) x1 x2 h = refl
-short-strip (a ∷ b ∷ []) x1 x2 h = refl
-short-strip (a ∷ b ∷ c ∷ s) x1 x2 h = absurd (omega arith)
-
-pub terms-end : (t : List ℕ) (x1 x2 total i : ℕ) → SoFar (λ s. stripSum s x1 x2) t total i → length t ≤ i + 2 → total ≡ stripSum t x1 x2
-terms-end t x1 x2 total i s h =
-    so-far-end (λ s. stripSum s x1 x2) t total i s (short-strip (drop i t) x1 x2 (omega (arith, length-drop i t)))

@@ -3,7 +3,6 @@ pub mod Sizes
 pub mod Layout
 pub mod Extreme
 pub mod Overlaps
-pub mod Strips
 pub mod Row
 pub mod JobA
 pub mod Cases

@@ -11,15 +11,12 @@ widest = 1048576
 abbrev pub largest : ℕ
 largest = widest * widest
 
--- how many rectangles may be drawn, and the numbers of so many in a table, four each, and in a strip, three each
+-- how many rectangles may be drawn, and the numbers of so many in a table, four each
 abbrev pub mostRects : ℕ
 mostRects = 1024
 
 abbrev pub rectsRoom : ℕ
 rectsRoom = 4 * mostRects
-
-abbrev pub stripRoom : ℕ
-stripRoom = 3 * mostRects
 
 -- no number of a list is past the widest
 pub record SmallList (l : List ℕ) : Type 0 where

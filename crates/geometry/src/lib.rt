@@ -1,15 +1,13 @@
 // Rectangles, the covered area of a box and the shapes under it, and what a
 // search for an extreme finds.
 
-ghost use Prim.Native.Nat.{_+_, _*_, _^_, _≤_, _<_, min, max};
+ghost use Prim.Native.Nat.{_+_, _*_, _^_, _<_, min, max};
 ghost use mathlib.Core.Path.{_≡_};
-ghost use lib.ListN.{length, getD};
+ghost use lib.ListN.{length};
 ghost use Rattle.geometry.specs.Sizes.{SmallList};
 ghost use Rattle.geometry.specs.Count.{one-if};
 ghost use Rattle.geometry.specs.Layout.{rectsOf, sharesSquare, coverOf, windowBox, Drawn};
 ghost use Rattle.geometry.specs.Overlaps.{rectAt, common, overlap};
-ghost use Rattle.geometry.specs.Strips.{part, rowsPart, columnsPart, stripOf, narrowed, stripSum, StripSmall};
-ghost use Rattle.buffers.specs.Written.{Written, Front};
 ghost use Rattle.geometry.specs.Extreme.{better, replaced};
 
 // How many rectangles may be drawn, and the numbers of so many in a table.
@@ -123,94 +121,6 @@ pub fn shares_square(rects: &[u64], b: Rect) -> bool
 {
     let cover = cover_of(rects, b);
     0 < cover.area
-}
-
-// Writes a rectangle's part of a strip at a place, if it has any.
-fn put_part(out: &mut [u64], at: usize, met: u64, x1: u64, x2: u64, rows: u64) -> usize
-    requires { ⌜ at + 3 ≤ length (now out) ⌝ }
-    ensures { λ r. ⌜ Written (now (out .entry)) at (part met x1 x2 rows) (now (out .exit)) r ⌝ }
-{
-    if 0 < met {
-        out[at] = x1;
-        out[at + 1] = x2;
-        out[at + 2] = rows;
-        at + 3
-    } else {
-        at
-    }
-}
-
-// Writes what the rows y1 to y2 hold of the rectangle at place i of a table.
-fn strip_one(rects: &[u64], i: usize, y1: u64, y2: u64, out: &mut [u64], at: usize) -> usize
-    requires { ⌜ i + 3 < length (now rects) ⌝ }
-    requires { ⌜ at + 3 ≤ length (now out) ⌝ }
-    ensures { λ r. ⌜ Written (now (out .entry)) at (rowsPart (rectAt (now (rects .entry)) i) y1 y2) (now (out .exit)) r ⌝ }
-{
-    let rows = common_length(rects[i + 1], rects[i + 3], y1, y2);
-    put_part(out, at, rows, rects[i], rects[i + 2], rows)
-}
-
-// Writes the strip of the rows y1 to y2 at the front of a buffer, for areas of
-// boxes that differ in their columns alone.
-pub fn strip(rects: &[u64], y1: u64, y2: u64, out: &mut [u64]) -> usize
-    requires { ⌜ length (now rects) ≤ length (now out) ⌝ }
-    ensures { λ r. ⌜ Front (now (out .entry)) (stripOf (rectsOf (now (rects .entry))) y1 y2) (now (out .exit)) r ⌝ }
-{
-    let mut at: usize = 0;
-    let mut i: usize = 0;
-    while i + 3 < rects.len() {
-        at = strip_one(rects, i, y1, y2, out, at);
-        i += 4;
-    }
-    at
-}
-
-// Writes the rectangle at place i of a strip, if it meets the columns x1 to x2.
-fn narrow_one(strip: &[u64], i: usize, x1: u64, x2: u64, out: &mut [u64], at: usize) -> usize
-    requires { ⌜ i + 2 < length (now strip) ⌝ }
-    requires { ⌜ at + 3 ≤ length (now out) ⌝ }
-    ensures { λ r. ⌜ Written (now (out .entry)) at (columnsPart (now (strip .entry)) i x1 x2) (now (out .exit)) r ⌝ }
-{
-    let columns = common_length(strip[i], strip[i + 1], x1, x2);
-    put_part(out, at, columns, strip[i], strip[i + 1], strip[i + 2])
-}
-
-// Writes the rectangles of a strip that meet the columns x1 to x2 at the front
-// of a buffer: they suffice for the areas between those columns.
-pub fn narrow(strip: &[u64], x1: u64, x2: u64, out: &mut [u64]) -> usize
-    requires { ⌜ length (now strip) ≤ length (now out) ⌝ }
-    ensures { λ r. ⌜ Front (now (out .entry)) (narrowed (now (strip .entry)) x1 x2) (now (out .exit)) r ⌝ }
-{
-    let mut at: usize = 0;
-    let mut i: usize = 0;
-    while i + 2 < strip.len() {
-        at = narrow_one(strip, i, x1, x2, out, at);
-        i += 3;
-    }
-    at
-}
-
-// What the rectangle at place i of a strip has between the columns x1 and x2.
-fn strip_term(strip: &[u64], i: usize, x1: u64, x2: u64) -> u64
-    requires { ⌜ i + 2 < length (now strip) ⌝ }
-    requires { ⌜ StripSmall (now strip) ⌝ }
-    ensures { λ r. ⌜ r ≡ common (getD (now (strip .entry)) i 0) (getD (now (strip .entry)) (i + 1) 0) x1 x2 * getD (now (strip .entry)) (i + 2) 0 ⌝ }
-{
-    common_length(strip[i], strip[i + 1], x1, x2) * strip[i + 2]
-}
-
-// The area that a strip has between the columns x1 and x2.
-pub fn strip_area(strip: &[u64], x1: u64, x2: u64) -> u64
-    requires { ⌜ StripSmall (now strip) ⌝ }
-    ensures { λ r. ⌜ r ≡ stripSum (now (strip .entry)) x1 x2 ⌝ }
-{
-    let mut total: u64 = 0;
-    let mut i: usize = 0;
-    while i + 2 < strip.len() {
-        total += strip_term(strip, i, x1, x2);
-        i += 3;
-    }
-    total
 }
 
 // Whether an area is strictly better than the one that stands.

@@ -75,13 +75,7 @@ fn judged_number(head: Head, rects: &[u64], order: &[usize], amounts: &[u64]) ->
     number_of(fill::judge(rects, order, amounts, jobfile::plan_of(head)))
 }
 
-fn ordered_phase(
-    phase: u64,
-    head: Head,
-    rects: &[u64],
-    order: &[usize],
-    amounts: &[u64],
-) -> u64
+fn ordered_phase(phase: u64, head: Head, rects: &[u64], order: &[usize], amounts: &[u64]) -> u64
     requires { ⌜ Ready head (now rects) (now amounts) ⌝ }
     requires { ⌜ Swept (now rects) (now order) ⌝ }
     ensures { λ r. ⌜ r ≡ phaseNumber phase (answerOf (standingOf head (now (rects .entry)) (now (amounts .entry)))) ⌝ }

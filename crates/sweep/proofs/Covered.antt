@@ -5,7 +5,6 @@ use mathlib.Core.Logic.{_⊎_, inl, inr}
 use mathlib.Core.List.{List, [], _∷_, _++_}
 use native.Mathlib.Numerals.{add-one}
 use native.Mathlib.Omega.{arith}
-use lib.Dec.{ltb}
 use lib.ListN.{length, getD, set, take, drop, length-append, drop-of-length-le}
 use lib.Seq.{drop-cons}
 use borrow.Author.Tests.{lt-ltb, le-ltb}
@@ -17,7 +16,7 @@ use Rattle.geometry.specs.declared.Rect.{Rect}
 use Rattle.geometry.specs.Sizes.{widest}
 use Rattle.geometry.specs.Count.{one-if, rectSum}
 use Rattle.geometry.specs.Layout.{covered, coveredArea, rectsOf, Drawn}
-use Rattle.geometry.specs.Overlaps.{rectAt, common}
+use Rattle.geometry.specs.Overlaps.{common}
 use Rattle.geometry.proofs.Counting.{rect-cong, rect-plus, box-cut-columns}
 use Rattle.geometry.proofs.Overlaps.{overlap-is-area}
 use Rattle.sweep.specs.declared.Side.{Side}

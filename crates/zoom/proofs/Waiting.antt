@@ -1,19 +1,17 @@
 -- A box that is carried along a row: it is not right of the next start's window, so it may move there.
-use Prim.Native.Nat.{ℕ, _+_, _*_, _≤_, _<_}
-use mathlib.Core.Path.{_≡_, refl, sym, ap, subst}
+use Prim.Native.Nat.{ℕ, _+_, _*_, _≤_}
+use mathlib.Core.Path.{_≡_, refl, sym, subst}
 use mathlib.Core.List.{List}
 use native.Mathlib.Nat.{mul-le-mul-right}
 use native.Mathlib.Omega.{arith}
 use Rattle.geometry.specs.declared.Sense.{Sense}
 use Rattle.geometry.specs.declared.Sense.the-variants.{Greatest, Least}
-use Rattle.geometry.specs.Sizes.{widest}
 use Rattle.sweep.specs.declared.Frame.{Frame}
 use Rattle.sweep.specs.Strips.{Strip}
 use Rattle.sweep.specs.Cursors.{frameAt, startFrame, Behind}
 use Rattle.sweep.proofs.Moving.{start-is}
 use Rattle.zoom.specs.declared.Grid.{Grid}
 use Rattle.zoom.specs.Sizes.{spanRoom}
-use Rattle.zoom.specs.Grid.{Sized}
 use Rattle.zoom.specs.Strips.{spanFrom, spanTo, OnRow, Waits}
 use Rattle.zoom.proofs.PassLoops.{start-inside}
 

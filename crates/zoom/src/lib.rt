@@ -85,13 +85,7 @@ enum Next {
 // The quick run for an extreme. The exact run's window m comes in, so that the
 // exact level does not search again. `old` has the flags of the level before,
 // none at first, and `new` gets those of this one.
-pub fn quick_run(
-    sense: Sense,
-    rects: &[u64],
-    order: &[usize],
-    asked: Asked,
-    m: Spot,
-) -> Quick
+pub fn quick_run(sense: Sense, rects: &[u64], order: &[usize], asked: Asked, m: Spot) -> Quick
     requires { ⌜ Runnable sense (now rects) (now order) asked m ⌝ }
     ensures { λ r. ⌜ r ≡ quickRun sense (rectsOf (now (rects .entry))) (asked .size) (asked .window) (asked .accuracy) (asked .levels) ⌝ }
 {

@@ -175,7 +175,16 @@ fn row_at(
     let lengths = sweep::strip(rects, order, low, high, lows, highs);
     let count = lengths.low;
     let more = lengths.high;
-    row(pass, &lows[..count], &highs[..more], flags, new, g, j, before)
+    row(
+        pass,
+        &lows[..count],
+        &highs[..more],
+        flags,
+        new,
+        g,
+        j,
+        before,
+    )
 }
 
 // All rows.

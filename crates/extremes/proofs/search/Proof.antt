@@ -31,11 +31,12 @@ loop-holds c =
 search-row-requires : tie.Need-search-row-requires Inv-loop μ-loop
 search-row-requires c κs =
     let s = c .before .before .before .before .before .before .before .before .before in
-    let at = c .before .before .before .before .loop in
-    (
+    let at = c .before .before .before .before .loop in (
       s .pre .0 .swept,
-      (record { right = omega (arith, s .pre .0 .fits, s .pre .0 .small); low = small-at (s .args .ys .now) (at .i) (s .pre .1) },
-      (omega (arith, at .inv .1), omega (arith, at .inv .2))),
+      (
+        record { right = omega (arith, s .pre .0 .fits, s .pre .0 .small); low = small-at (s .args .ys .now) (at .i) (s .pre .1) },
+        (omega (arith, at .inv .1), omega (arith, at .inv .2)),
+      ),
     )
 
 loop-again : tie.Need-loop-again Inv-loop μ-loop

@@ -12,7 +12,7 @@ gained c =
     omega (
       arith,
       gained-fits (a .lows .now) (a .highs .now) (a .left) (a .right) _ _ (c .before .before .before .move-edges .ensures) (c .before .before .move-edges2 .ensures)
-      (s .pre .0) (s .pre .1 .upright) (s .pre .1 .small),
+          (s .pre .0) (s .pre .1 .upright) (s .pre .1 .small),
     )
 
 lost : tie.Need-add-t9

@@ -43,10 +43,9 @@ same-length-2 c = search needs
 returns : tie.Need-returns
 returns c =
     let s = c .before .before .before .before .before .before .before .before .before .before .before .before .before .before in
-    let a = s .args in
-    (
+    let a = s .args in (
       sides-known (a .rects .now) Low (a .y1) (a .y2) _ _ _ _ (order-low (a .rects .now) (a .order .now) (s .pre .0))
-      (c .before .before .before .before .before .before .before .sides-of .ensures),
+          (c .before .before .before .before .before .before .before .sides-of .ensures),
       sides-known (a .rects .now) High (a .y1) (a .y2) _ _ _ _ (order-high (a .rects .now) (a .order .now) (s .pre .0)) (c .before .before .sides-of2 .ensures),
     )
 

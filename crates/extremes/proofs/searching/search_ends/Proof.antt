@@ -1,5 +1,4 @@
 -- `extremes::searching::search_ends` meets its contract. Assumes nothing.
-use native.Mathlib.Omega.{arith}
 use borrow.Author.Needs.{needs}
 use Rattle.extremes.proofs.Sweeping.{start-behind, tried-behind, ends-tried}
 use Rattle.extremes.proofs.searching.search_ends.Statement.{statement}

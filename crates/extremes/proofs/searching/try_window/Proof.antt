@@ -1,5 +1,4 @@
 -- `extremes::searching::try_window` meets its contract. Assumes nothing.
-use native.Mathlib.Omega.{arith}
 use borrow.Author.Needs.{needs}
 use Rattle.extremes.proofs.Sweeping.{window-tried}
 use Rattle.extremes.proofs.searching.try_window.Statement.{statement}

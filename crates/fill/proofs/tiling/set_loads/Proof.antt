@@ -27,8 +27,7 @@ loop-holds c = (omega arith, refl, refl, filled-to _ _ _ _ _ _ (filled-start _ _
 set-row-at-requires : tie.Need-set-row-at-requires Inv-loop μ-loop
 set-row-at-requires c κs =
     let s = c .before .before .before .before .before .before .before .before .before .before in
-    let at = c .before .before .before .before .before .loop in
-    (
+    let at = c .before .before .before .before .before .loop in (
       s .pre .0,
       ((s .pre .1 .0, c .before .before .before .if1 .taken), (omega (arith, s .pre .1 .1, at .inv .3 .size), (omega (arith, at .inv .1), omega (arith, at .inv .2)))),
     )
@@ -37,13 +36,12 @@ loop-again : tie.Need-loop-again Inv-loop μ-loop
 loop-again c =
     let a = c .before .before .before .before .before .before .before .before .before .before .before .before .before .before .before .args in
     let at = c .before .before .before .before .before .before .before .before .before .before .loop in
-    let row = c .before .before .before .before .set-row-at in
-    (
+    let row = c .before .before .before .before .set-row-at in (
       omega (arith, c .before .before .before .before .before .before .before .before .if1 .taken),
       row .kept .1 .1 .1 .1 .1 .1 .0 ∙ at .inv .1,
       row .kept .1 .1 .1 .1 .1 .1 .1 .0 ∙ at .inv .2,
       rw (add-one)
-      (filled-then _ _ _ _ _ _ _ (at .inv .3) (row .ensures) (omega arith) (mul-le-mul-right (a .plan .across) (omega arith))),
+          (filled-then _ _ _ _ _ _ _ (at .inv .3) (row .ensures) (omega arith) (mul-le-mul-right (a .plan .across) (omega arith))),
     )
 
 returns : tie.Need-returns Inv-loop μ-loop

@@ -87,14 +87,13 @@ loop-again c =
     let s = c .before .before .before .before .before .before .before .before .before .before .before .before in
     let at = c .before .before .before .before .before .loop in
     let more = c .before .before .before .if1 .taken in
-    let moved = c .before .before .move-to .ensures in
-    (
+    let moved = c .before .before .move-to .ensures in (
       omega (arith, more),
       at-next _ _ _ _ _ moved,
       filled-to _ _ _ _ _ _
-      (filled-next _ _ _ _ _ _ (at .inv .2) (omega arith) (omega (arith, place-inside _ _ _ _ _ (at .i) (s .pre .1 .0) more, at .inv .2 .size, s .pre .1 .1))
-      (load-formed _ _ _ _ _ (at .i) (s .pre .1 .0) more _ moved))
-      (add-assoc (s .args .j * s .args .plan .across) (at .i) 1),
+          (filled-next _ _ _ _ _ _ (at .inv .2) (omega arith) (omega (arith, place-inside _ _ _ _ _ (at .i) (s .pre .1 .0) more, at .inv .2 .size, s .pre .1 .1))
+          (load-formed _ _ _ _ _ (at .i) (s .pre .1 .0) more _ moved))
+          (add-assoc (s .args .j * s .args .plan .across) (at .i) 1),
     )
 
 returns : tie.Need-returns Inv-loop μ-loop

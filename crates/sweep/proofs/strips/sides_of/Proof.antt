@@ -1,7 +1,6 @@
 -- `sweep::strips::sides_of` meets its contract. The loop's invariant: what is written and the sides at the places that are left make the list. The
 -- measure is what is left of the places. Assumes nothing.
 use Prim.Native.Nat.{_-_}
-use native.Mathlib.Omega.{arith}
 use borrow.Author.Needs.{needs}
 use lib.ListN.{length}
 use Rattle.buffers.proofs.Fronts.{FrontSoFar, front-starts}

@@ -1,5 +1,5 @@
 -- `zoom::levels::level` meets its contract. Assumes nothing.
-use mathlib.Core.Path.{_≡_, ap, _∙_}
+use mathlib.Core.Path.{ap, _∙_}
 use mathlib.Core.List.{List}
 use Prim.Native.Nat.{ℕ}
 use native.Mathlib.Omega.{arith}
@@ -21,8 +21,7 @@ rows-requires-2 c κs =
     let start = c .before .before .before .before .before .before .before .before .before .before in
     let a = start .args in
     let p = start .pre .0 in
-    let first = c .before .before .before .before .rows in
-    (
+    let first = c .before .before .before .before .rows in (
       record {
         swept = p .swept;
         sized = p .sized;

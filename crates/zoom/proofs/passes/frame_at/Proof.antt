@@ -1,7 +1,5 @@
 -- `zoom::passes::frame_at` meets its contract. Assumes nothing.
-use mathlib.Core.Path.{ap}
 use native.Mathlib.Omega.{arith}
-use borrow.Author.Needs.{needs}
 use Rattle.zoom.proofs.Waiting.{start-room, waits-behind, frame-moved}
 use Rattle.zoom.proofs.passes.frame_at.Statement.{statement}
 use Rattle.zoom.proofs.passes.frame_at.Tie as tie
@@ -17,9 +15,11 @@ span-to-requires c κs = let s = c .before .before .before .before in omega (ari
 
 move-to-requires : tie.Need-move-to-requires
 move-to-requires c κs =
-    let s = c .before .before .before .before .before in
-    (s .pre .0, waits-behind (s .args .lows .now) (s .args .highs .now) (s .args .g) (s .args .u) (s .args .i) (s .args .from) _ _ (s .pre .1 .0) (s .pre .1 .1)
-    (c .before .span-from .ensures) (c .span-to .ensures))
+    let s = c .before .before .before .before .before in (
+      s .pre .0,
+      waits-behind (s .args .lows .now) (s .args .highs .now) (s .args .g) (s .args .u) (s .args .i) (s .args .from) _ _ (s .pre .1 .0) (s .pre .1 .1)
+          (c .before .span-from .ensures) (c .span-to .ensures),
+    )
 
 returns : tie.Need-returns
 returns c =

@@ -1,5 +1,5 @@
 -- `zoom::passes::look` meets its contract. Assumes nothing.
-use mathlib.Core.Path.{refl, ap, subst}
+use mathlib.Core.Path.{subst}
 use borrow.Author.Needs.{needs}
 use Rattle.zoom.specs.declared.Pass.{Pass}
 use Rattle.zoom.specs.Sizes.{keptRoom}

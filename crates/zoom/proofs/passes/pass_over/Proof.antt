@@ -1,5 +1,4 @@
 -- `zoom::passes::pass_over` meets its contract. Assumes nothing.
-use mathlib.Core.Path.{refl}
 use borrow.Author.Needs.{needs}
 use Rattle.zoom.proofs.passes.pass_over.Statement.{statement}
 use Rattle.zoom.proofs.passes.pass_over.Tie as tie

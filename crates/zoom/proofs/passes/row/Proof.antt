@@ -1,7 +1,7 @@
 -- `zoom::passes::row` meets its contract. The loop's invariant: the first i starts were looked at, and the box that is carried along is not right of
 -- the next one's window. The measure is what is left of the starts. Assumes nothing.
 use Prim.Native.Nat.{ℕ, _-_, _*_, _/_, _≤_}
-use mathlib.Core.Path.{_≡_, sym, ap, _∙_}
+use mathlib.Core.Path.{sym, ap, _∙_}
 use native.Mathlib.Omega.{arith}
 use borrow.Author.Needs.{needs}
 use Rattle.sweep.specs.declared.Frame.{Frame}
@@ -49,22 +49,22 @@ loop-again c =
     let a = s .args in
     let at = c .before .before .before .before .before .before .before .before .loop in
     let more = c .before .before .before .before .before .before .if1 .taken in
-    let flagged = sym (c .before .before .before .before .before .flag-at .ensures) ∙ c .before .before .before .before .if2 .taken in
-    (
+    let flagged = sym (c .before .before .before .before .before .flag-at .ensures) ∙ c .before .before .before .before .if2 .taken in (
       omega (arith, more),
       waits-on _ _ _ _ _ _ (at .inv .1),
       pass-skips (a .pass) _ _ _ _ _ _ _ _ _ _ (at .inv .2) (a .g .starts) (a .flags .now) (a .g .stride) (a .j) _ (s .pre .0 .spare) more (few s) flagged (s .pre .1)
-      (c .before .before .pass-over .ensures),
+          (c .before .before .pass-over .ensures),
     )
 
 frame-at-requires : tie.Need-frame-at-requires Inv-loop μ-loop
 frame-at-requires c κs =
     let s = c .before .before .before .before .before .before .before .before .before .before .before .before .before .before in
-    let z = s .pre .0 .sized in
-    (
+    let z = s .pre .0 .sized in (
       s .pre .0 .strip,
-      (record { sized = z; step-fits = omega (arith, c .before .before .before .before .before .before .before .before .before .step-of .ensures, step-small (s .args .pass) (s .args .g) z); within = c .before .before .if1 .taken },
-      c .before .before .before .before .loop .inv .1),
+      (
+        record { sized = z; step-fits = omega (arith, c .before .before .before .before .before .before .before .before .before .step-of .ensures, step-small (s .args .pass) (s .args .g) z); within = c .before .before .if1 .taken },
+        c .before .before .before .before .loop .inv .1,
+      ),
     )
 
 mul-look : tie.Need-mul-look Inv-loop μ-loop
@@ -84,13 +84,12 @@ loop-again-2 c =
     let at = c .before .before .before .before .before .before .before .before .before .before .loop in
     let frame = c .before .before .before .before .before .frame-at .ensures in
     let look = c .before .before .look in
-    let x = at .i * a .g .t in
-    (
+    let x = at .i * a .g .t in (
       omega (arith, c .before .before .before .before .before .before .before .before .if1 .taken),
       waits-moved _ _ _ _ _ _ frame,
       pass-looks (a .pass) _ _ _ _ _ _ _ _ _ _ (at .inv .2) _ _ _
-      (ap (λ (f : Frame). f .area) frame ∙ ap (λ (u : ℕ). alongStrip (a .lows .now) (a .highs .now) (a .g) u x (a .j * a .g .t)) (c .before .before .before .before .before .before .before .before .before .before .before .before .before .before .before .step-of .ensures))
-      (look .ensures .0) (look .ensures .1),
+          (ap (λ (f : Frame). f .area) frame ∙ ap (λ (u : ℕ). alongStrip (a .lows .now) (a .highs .now) (a .g) u x (a .j * a .g .t)) (c .before .before .before .before .before .before .before .before .before .before .before .before .before .before .before .step-of .ensures))
+          (look .ensures .0) (look .ensures .1),
     )
 
 returns : tie.Need-returns Inv-loop μ-loop

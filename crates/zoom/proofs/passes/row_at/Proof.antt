@@ -54,8 +54,7 @@ row-requires c κs =
     let lent = c .before .before .before .before .before .before .before .strip .ensures in
     let strip =
     strip-of-pass (a .pass) (a .rects .now) (a .g) (a .j) _ _ _ _ _ (c .before .before .before .before .before .before .before .before .before .before .before .before .before .step-of .ensures) (c .before .before .before .before .before .before .before .before .before .before .before .span-from .ensures) (c .before .before .before .before .before .before .before .before .before .before .span-to .ensures)
-    (strip-lent (a .rects .now) _ _ _ _ _ _ _ _ (r .swept .drawn) (lent .0) (lent .1)) in
-    (
+    (strip-lent (a .rects .now) _ _ _ _ _ _ _ _ (r .swept .drawn) (lent .0) (lent .1)) in (
       record {
         strip = strip .strip;
         sized = r .sized;
@@ -74,8 +73,7 @@ returns c =
     let lent = c .before .before .before .before .before .before .before .before .before .before .strip .ensures in
     let strip =
     strip-of-pass (a .pass) (a .rects .now) (a .g) (a .j) _ _ _ _ _ (c .before .before .before .before .before .before .before .before .before .before .before .before .before .before .before .before .step-of .ensures) (c .before .before .before .before .before .before .before .before .before .before .before .before .before .before .span-from .ensures) (c .before .before .before .before .before .before .before .before .before .before .before .before .before .span-to .ensures)
-    (strip-lent (a .rects .now) _ _ _ _ _ _ _ _ (r .swept .drawn) (lent .0) (lent .1)) in
-    (
+    (strip-lent (a .rects .now) _ _ _ _ _ _ _ _ (r .swept .drawn) (lent .0) (lent .1)) in (
       row .0 ∙ row-by-strip (a .pass) (a .rects .now) (a .g) (a .j) (r .sized) (r .within) _ _ strip (a .before),
       row .1 ∙ flags-by-strip (a .pass) (a .rects .now) (a .g) (a .j) (r .sized) (r .within) _ _ strip _ _ _,
     )

@@ -29,8 +29,7 @@ row-at-requires c κs =
     let a = s .args in
     let p = s .pre .0 in
     let at = c .before .before .before .before .before .loop in
-    let within = c .before .before .before .if1 .taken in
-    (
+    let within = c .before .before .before .if1 .taken in (
       record {
         swept = p .swept;
         sized = p .sized;
@@ -39,15 +38,16 @@ row-at-requires c κs =
             passes-spare (a .pass) _ _ _ _ _ _ _ _ _ (at .inv .3) (rectsOf (a .rects .now)) (a .g .n) (a .g .w) (a .flags .now) (a .g .stride)
             (p .spare (at .j) (rw (p .sized .count) at within));
       },
-      (passes-lookable (a .pass) _ _ _ _ _ _ _ _ _ (at .inv .3) (row-place (a .g) (at .j) (p .sized) (at .inv .0)) (s .pre .1),
-      (omega (arith, at .inv .1), omega (arith, at .inv .2))),
+      (
+        passes-lookable (a .pass) _ _ _ _ _ _ _ _ _ (at .inv .3) (row-place (a .g) (at .j) (p .sized) (at .inv .0)) (s .pre .1),
+        (omega (arith, at .inv .1), omega (arith, at .inv .2)),
+      ),
     )
 
 loop-again : tie.Need-loop-again Inv-loop μ-loop
 loop-again c =
     let at = c .before .before .before .before .before .before .before .before .before .before .loop in
-    let row = c .before .before .before .before .row-at in
-    (
+    let row = c .before .before .before .before .row-at in (
       omega (arith, c .before .before .before .before .before .before .before .before .if1 .taken),
       row .kept .1 .1 .1 .1 .1 .1 .1 .1 .0 ∙ at .inv .1,
       row .kept .1 .1 .1 .1 .1 .1 .1 .1 .1 .0 ∙ at .inv .2,
