@@ -1,5 +1,5 @@
 -- The search along a row: what it leaves after each window, and that it tries the windows at the sides of the strip from left to right.
-use Prim.Native.Nat.{ℕ, suc, _+_, _-_, _*_, _/_, _≤_, _<_}
+use Prim.Native.Nat.{ℕ, suc, _+_, _-_, _≤_, _<_}
 use mathlib.Core.Path.{_≡_, refl, sym, ap, ap₂, _∙_, subst}
 use mathlib.Core.Bool.{Bool, true, false}
 use mathlib.Core.List.{List, [], _∷_, _++_}
@@ -12,14 +12,13 @@ use Rattle.geometry.specs.declared.Sense.{Sense}
 use Rattle.geometry.specs.Layout.{rectsOf}
 use Rattle.geometry.specs.Extreme.{spotAt}
 use Rattle.sweep.specs.declared.Frame.{Frame}
-use Rattle.sweep.specs.Strips.{stripRoom, Rising, Sides, Strip, Swept}
-use Rattle.sweep.specs.Cursors.{frameAt, startFrame, Behind}
-use Rattle.sweep.proofs.Moving.{two-at, start-is}
-use Rattle.sweep.proofs.Covered.{StripOf}
+use Rattle.sweep.specs.Strips.{Rising, Sides, Strip, StripOf}
+use Rattle.sweep.specs.Cursors.{frameAt, startFrame, Behind, Upright}
+use Rattle.sweep.proofs.Moving.{two-at, behind-start, behind-later, behind-moved}
 use Rattle.extremes.specs.declared.searching.Row.{Row}
 use Rattle.extremes.specs.declared.searching.Tried.{Tried}
 use Rattle.extremes.specs.Exact.{windowArea}
-use Rattle.extremes.specs.Search.{leading, passed, leadingInRow, stripArea, isReached, positionsOf, nearOf, farOf, triedIn, triedRow, triedAt, triedBy, Narrow, Reaches, SmallRow}
+use Rattle.extremes.specs.Search.{leading, passed, leadingInRow, stripArea, isReached, positionsOf, nearOf, farOf, triedIn, triedRow, triedAt, triedBy, SmallRow}
 use Rattle.extremes.proofs.Steps.{passed-cong, passed-append}
 use Rattle.extremes.proofs.Reached.{position-first, position-skipped, short-positions}
 
@@ -31,17 +30,9 @@ window-tried lows highs row x b r f e h =
     ap₂ {C = Tried} (λ (f : Frame) (r : Spot). record { frame = f; best = r }) e
     (h ∙ ap (λ (f : Frame). leading (row .sense) b (record { area = f .area; x = x; y = row .y })) e)
 
--- a box that is narrow may move to a window further right
-pub narrow-behind : (lows highs : List ℕ) (row : Row) (x : ℕ) (t : Tried) → Narrow lows highs row t → t .frame .left ≤ x → x ≤ row .last → SmallRow row →
-    Behind lows highs (t .frame) x (x + row .w)
-narrow-behind lows highs row x t z h k q =
-    record {
-      is = z .is;
-      left-earlier = h;
-      right-earlier = omega (arith, z .narrow);
-      upright = omega arith;
-      small = omega (arith, q .right);
-    }
+-- a window of a row
+pub window-upright : (row : Row) (x : ℕ) → x ≤ row .last → SmallRow row → Upright x (x + row .w)
+window-upright row x h q = record { order = omega arith; small = omega (arith, q .right) }
 
 module _ (lows highs : List ℕ) (row : Row) (v shift : ℕ) (before : Tried) where
   pub side-short : v < shift → before ≡ triedBy lows highs row v shift before
@@ -54,26 +45,10 @@ module _ (lows highs : List ℕ) (row : Row) (v shift : ℕ) (before : Tried) wh
     pub side-tried : (r : Tried) → v - shift ≤ row .last → r ≡ triedAt lows highs row (v - shift) (before .best) → r ≡ triedBy lows highs row v shift before
     side-tried r k e = rw (le-leb shift v h, le-leb (v - shift) (row .last) k, triedBy, isReached) e
 
-    pub side-behind : v - shift ≤ row .last → Reaches lows highs row v shift before → SmallRow row →
-        Behind lows highs (before .frame) (v - shift) (v - shift + row .w)
-    side-behind k z q = narrow-behind lows highs row (v - shift) before (z .box) (z .earlier) k q
-
-pub start-narrow : (lows highs : List ℕ) (row : Row) (b : Spot) (f : Frame) → f ≡ startFrame → Strip lows highs →
-    Narrow lows highs row (record { frame = f; best = b })
-start-narrow lows highs row b f e s =
-    subst (λ (f : Frame). Narrow lows highs row (record { frame = f; best = b })) (sym e) (record { is = start-is lows highs s; narrow = omega arith })
-
--- the first window of a row, and one right of a window that was tried
-pub start-behind : (lows highs : List ℕ) (row : Row) (b : Spot) (f : Frame) → f ≡ startFrame → Strip lows highs → SmallRow row →
-    Behind lows highs f 0 (0 + row .w)
-start-behind lows highs row b f e s q =
-    narrow-behind lows highs row 0 (record { frame = f; best = b }) (start-narrow lows highs row b f e s) (omega (arith, ap (λ (f : Frame). f .left) e)) (omega arith) q
-
-pub tried-behind : (lows highs : List ℕ) (row : Row) (x p : ℕ) (b : Spot) (t : Tried) → t ≡ triedAt lows highs row x b → x ≤ p → p ≤ row .last → SmallRow row →
+-- a window right of one that was tried
+pub tried-behind : (lows highs : List ℕ) (row : Row) (x p : ℕ) (b : Spot) (t : Tried) → t ≡ triedAt lows highs row x b → x ≤ p →
     Behind lows highs (t .frame) p (p + row .w)
-tried-behind lows highs row x p b t e h k q =
-    subst (λ (t : Tried). Behind lows highs (t .frame) p (p + row .w)) (sym e)
-    (narrow-behind lows highs row p (triedAt lows highs row x b) (record { is = refl; narrow = omega arith }) h k q)
+tried-behind lows highs row x p b t e h = behind-moved lows highs (t .frame) x (x + row .w) p (p + row .w) (ap (λ (t : Tried). t .frame) e) h (omega arith)
 
 -- ---- the sides of a list, from left to right
 
@@ -85,20 +60,18 @@ module _ (lows highs : List ℕ) (row : Row) (sides : List ℕ) (shift : ℕ) (s
   -- the sides before place i were tried; those that are left rise from `reached` on, and the box is not right of where they reach
   pub record Searching (t : Tried) (i : ℕ) : Type 0 where
     pub whole : searched (positionsOf shift (row .last) (drop i sides)) (t .best) ≡ searched (positionsOf shift (row .last) sides) start
-    pub box : Narrow lows highs row t
     pub reached : ℕ
     pub rises : Rising reached (drop i sides)
-    pub behind : t .frame .left ≤ reached - shift
+    pub behind : Behind lows highs (t .frame) (reached - shift) (reached - shift + row .w)
     pub within : i ≤ length sides
 
   pub searching-starts : (f : Frame) → f ≡ startFrame → Strip lows highs → Sides sides → Searching (record { frame = f; best = start }) 0
   searching-starts f e s r =
       record {
         whole = refl;
-        box = start-narrow lows highs row start f e s;
         reached = 0;
         rises = r .rising;
-        behind = omega (arith, ap (λ (f : Frame). f .left) e);
+        behind = behind-start lows highs f (0 - shift) (0 - shift + row .w) s e;
         within = omega arith;
       }
 
@@ -117,8 +90,10 @@ module _ (lows highs : List ℕ) (row : Row) (sides : List ℕ) (shift : ℕ) (s
           subst (λ (l : List ℕ). searched (positionsOf shift (row .last) l) (t .best) ≡ searched (positionsOf shift (row .last) sides) start)
           (two-at sides i inside) (z .whole)
 
-      pub searching-may : Reaches lows highs row (getD sides i 0) shift t
-      searching-may = record { box = z .box; earlier = omega (arith, z .behind, here .0) }
+      pub searching-may : Behind lows highs (t .frame) (getD sides i 0 - shift) (getD sides i 0 - shift + row .w)
+      searching-may =
+          behind-later lows highs (t .frame) (z .reached - shift) (z .reached - shift + row .w) (getD sides i 0 - shift) (getD sides i 0 - shift + row .w)
+          (z .behind) (omega (arith, here .0)) (omega (arith, here .0))
 
       pub searching-next : (r : Tried) → r ≡ triedBy lows highs row (getD sides i 0) shift t → Searching r (i + 2)
       unfolding passed
@@ -137,10 +112,9 @@ module _ (lows highs : List ℕ) (row : Row) (sides : List ℕ) (shift : ℕ) (s
                 whole =
                     subst (λ (l : List ℕ). searched l (t .best) ≡ searched (positionsOf shift (row .last) sides) start)
                     (position-first shift (row .last) v (getD sides (suc i) 0) rest k) left;
-                box = record { is = refl; narrow = omega arith };
                 reached = v;
                 rises = here .1;
-                behind = omega arith;
+                behind = record { is = refl; left-earlier = omega arith; right-earlier = omega arith };
                 within = inside;
               }
           go false k =
@@ -148,15 +122,11 @@ module _ (lows highs : List ℕ) (row : Row) (sides : List ℕ) (shift : ℕ) (s
                 whole =
                     subst (λ (l : List ℕ). searched l (t .best) ≡ searched (positionsOf shift (row .last) sides) start)
                     (position-skipped shift (row .last) v (getD sides (suc i) 0) rest k) left;
-                box = z .box;
                 reached = v;
                 rises = here .1;
-                behind = omega (arith, z .behind, here .0);
+                behind = searching-may;
                 within = inside;
               }
-
-    pub searching-fits : i + 1 ≤ length sides + 1
-    searching-fits = omega (arith, z .within)
 
     pub searching-ends : length sides ≤ i + 1 → t .best ≡ searched (positionsOf shift (row .last) sides) start
     unfolding passed
@@ -205,8 +175,4 @@ row-by-strip t lows highs row b r s e =
     (λ x b. ap (λ (a : ℕ). leading (row .sense) b (record { area = a; x = x; y = row .y })) (s .areas x (x + row .w) (omega arith)))
     ∙ ap₂
     (λ (l h : List ℕ). leadingInRow (row .sense) (windowArea (rectsOf t) (row .w)) (triedIn (row .sense) (row .w) (row .last) l h) (row .y) b)
-    (s .low-is) (s .high-is)
-
--- room for a strip of drawn rectangles
-pub strip-room : (t order : List ℕ) → Swept t order → 2 * (length t / 4) ≤ stripRoom
-strip-room t order z = omega (arith, z .drawn .few)
+    (s .low) (s .high)

@@ -1,4 +1,4 @@
--- The list of positions that the search tries on an axis has every candidate, and positions alone.
+-- The list of rows that the search tries has every candidate, and positions alone.
 use Prim.Native.Nat.{ℕ, zero, suc, _+_, _-_, _≤_}
 use mathlib.Core.Path.{_≡_, refl, sym}
 use mathlib.Core.Bool.{Bool, true, false}

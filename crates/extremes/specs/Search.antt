@@ -1,7 +1,6 @@
 -- What the code of the exact run does in place of trying every position. A buyer need not read it: proofs/Searches.antt shows that
 -- `searched` is `extreme`.
 use Prim.Native.Nat.{ℕ, _+_, _-_, _≤_}
-use mathlib.Core.Path.{_≡_}
 use mathlib.Core.Bool.{Bool, true, false, _&&_, _||_}
 use mathlib.Core.List.{List, [], _∷_, _++_}
 use lib.Dec.{leb, ltb, eqb}
@@ -107,13 +106,3 @@ pub record Searchable (rects order : List ℕ) (n w : ℕ) : Type 0 where
 pub record SmallRow (row : Row) : Type 0 where
   pub right : row .last + row .w ≤ widest
   pub low : row .y ≤ widest
-
--- a box in the strip, no wider than a window
-pub record Narrow (lows highs : List ℕ) (row : Row) (t : Tried) : Type 0 where
-  pub is : t .frame ≡ frameAt lows highs (t .frame .left) (t .frame .right)
-  pub narrow : t .frame .right ≤ t .frame .left + row .w
-
--- the window whose edge meets a side is not left of the one that was tried before
-pub record Reaches (lows highs : List ℕ) (row : Row) (side shift : ℕ) (before : Tried) : Type 0 where
-  pub box : Narrow lows highs row before
-  pub earlier : before .frame .left ≤ side - shift

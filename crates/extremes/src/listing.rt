@@ -23,7 +23,7 @@ fn is_listed(l: &[u64], p: u64) -> bool
 }
 
 // Adds a position to the list at the front of a buffer, unless it is past the
-// last one or stands there already: so no window is tried twice.
+// last one or stands there already: so no row is searched twice.
 fn add_position(out: &mut [u64], count: usize, p: u64, last: u64) -> usize
     requires { ⌜ count < length (now out) ⌝ }
     ensures { λ r. ⌜ Front (now (out .entry)) (withPosition last p (take count (now (out .entry)))) (now (out .exit)) r ⌝ }

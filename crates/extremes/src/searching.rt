@@ -1,15 +1,15 @@
 // The search along a row: its windows are tried in any order, a better one leads,
 // and of two as good the earlier one.
-ghost use Prim.Native.Nat.{_+_, _≤_};
+ghost use Prim.Native.Nat.{_+_, _-_, _≤_};
 ghost use mathlib.Core.Path.{_≡_};
 ghost use mathlib.Core.List.{[], _∷_};
 ghost use lib.ListN.{length};
 ghost use Rattle.geometry.specs.Layout.{rectsOf};
 ghost use Rattle.sweep.specs.Strips.{stripRoom, Sides, Strip, Swept};
-ghost use Rattle.sweep.specs.Cursors.{Behind};
+ghost use Rattle.sweep.specs.Cursors.{Behind, Upright};
 ghost use Rattle.extremes.specs.Exact.{windowArea};
 ghost use Rattle.extremes.specs.Search.{earlier, leads, leading, leadingInRow};
-ghost use Rattle.extremes.specs.Search.{stripArea, triedAt, triedBy, positionsOf, triedIn, triedRow, Reaches, SmallRow};
+ghost use Rattle.extremes.specs.Search.{stripArea, triedAt, triedBy, positionsOf, triedIn, triedRow, SmallRow};
 use geometry::Sense;
 use geometry::Spot;
 use sweep::Frame;
@@ -69,6 +69,7 @@ struct Tried {
 fn try_window(lows: &[u64], highs: &[u64], row: Row, x: u64, before: Tried) -> Tried
     requires { ⌜ Strip (now lows) (now highs) ⌝ }
     requires { ⌜ Behind (now lows) (now highs) (before .frame) x (x + row .w) ⌝ }
+    requires { ⌜ Upright x (x + row .w) ⌝ }
     ensures { λ r. ⌜ r ≡ triedAt (now (lows .entry)) (now (highs .entry)) row x (before .best) ⌝ }
 {
     let sense = row.sense;
@@ -89,7 +90,7 @@ fn try_window(lows: &[u64], highs: &[u64], row: Row, x: u64, before: Tried) -> T
 // high edge for a shift of w.
 fn try_side(lows: &[u64], highs: &[u64], row: Row, side: u64, shift: u64, before: Tried) -> Tried
     requires { ⌜ Strip (now lows) (now highs) ⌝ }
-    requires { ⌜ Reaches (now lows) (now highs) row side shift before ⌝ }
+    requires { ⌜ Behind (now lows) (now highs) (before .frame) (side - shift) (side - shift + row .w) ⌝ }
     requires { ⌜ SmallRow row ⌝ }
     ensures { λ r. ⌜ r ≡ triedBy (now (lows .entry)) (now (highs .entry)) row side shift before ⌝ }
 {

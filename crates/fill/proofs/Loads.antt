@@ -17,10 +17,8 @@ use Rattle.geometry.specs.Layout.{coveredArea, rectsOf}
 use Rattle.geometry.proofs.Counting.{Inside, box-cong, box-le, box-const}
 use Rattle.geometry.proofs.Overlaps.{area-small}
 use Rattle.sweep.specs.declared.Frame.{Frame}
-use Rattle.sweep.specs.Strips.{stripSum, Strip}
-use Rattle.sweep.specs.Cursors.{frameAt, startFrame, Behind}
-use Rattle.sweep.proofs.Moving.{start-is}
-use Rattle.sweep.proofs.Covered.{StripOf}
+use Rattle.sweep.specs.Strips.{stripSum, StripOf}
+use Rattle.sweep.specs.Cursors.{frameAt, Upright}
 use Rattle.fill.specs.declared.Plan.{Plan}
 use Rattle.fill.specs.declared.Bound.{Bound}
 use Rattle.fill.specs.declared.Failing.{Failing}
@@ -130,35 +128,16 @@ module _ (rects amounts : List ℕ) (plan : Plan) (j : ℕ) (z : Tiled rects amo
 
 -- ---- a box that is carried along a row of tiles
 
--- it ends no further right than the next tile begins
-pub record AtTile (lows highs : List ℕ) (side i : ℕ) (f : Frame) : Type 0 where
-  pub is : f ≡ frameAt lows highs (f .left) (f .right)
-  pub left-earlier : f .left ≤ i * side
-  pub right-earlier : f .right ≤ i * side
-
-pub at-first : (lows highs : List ℕ) (side : ℕ) (f : Frame) → Strip lows highs → f ≡ startFrame → AtTile lows highs side 0 f
-at-first lows highs side f s e =
-    subst (λ (f : Frame). AtTile lows highs side 0 f) (sym e) (record { is = start-is lows highs s; left-earlier = omega arith; right-earlier = omega arith })
-
-module _ (lows highs : List ℕ) (side i : ℕ) (f : Frame) where
-  pub at-next : f ≡ frameAt lows highs (i * side) ((i + 1) * side) → AtTile lows highs side (i + 1) f
-  at-next e =
-      subst (λ (f : Frame). AtTile lows highs side (i + 1) f) (sym e)
-      (record { is = refl; left-earlier = mul-le-mul-right side (omega arith); right-earlier = omega arith })
-
-  pub tile-behind : AtTile lows highs side i f → (i + 1) * side ≤ widest → Behind lows highs f (i * side) ((i + 1) * side)
-  tile-behind a h =
-      record {
-        is = a .is;
-        left-earlier = a .left-earlier;
-        right-earlier = omega (arith, a .right-earlier, mul-le-mul-right {m = i} {n = i + 1} side (omega arith));
-        upright = mul-le-mul-right side (omega arith);
-        small = h;
-      }
+-- tile i ends where the next one begins
+pub tile-end : (side i : ℕ) → i * side ≤ (i + 1) * side
+tile-end side i = mul-le-mul-right side (omega arith)
 
 module _ (lows highs amounts : List ℕ) (plan : Plan) (j i : ℕ) (z : RowTiled lows highs amounts plan j) (h : i < plan .across) where
   pub tile-right : (i + 1) * plan .side ≤ widest
   tile-right = omega (arith, z .layout, mul-le-mul-right {m = i + 1} {n = plan .across} (plan .side) (omega arith))
+
+  pub tile-upright : Upright (i * plan .side) ((i + 1) * plan .side)
+  tile-upright = record { order = tile-end (plan .side) i; small = tile-right }
 
   pub place-inside : j * plan .across + i < plan .across * plan .across
   place-inside = omega (arith, mul-le-mul-right {m = suc j} {n = plan .across} (plan .across) (z .row), suc-mul j (plan .across))

@@ -1,4 +1,4 @@
--- The sums and the search for the verdict: their steps, that they fit 64 bits, and that they give the verdict's definition.
+-- The sums and the search for the verdict: their steps, and that they fit 64 bits. Loads.antt shows that they give the verdict's definition.
 use Prim.Native.Nat.{ℕ, suc, _+_, _*_, _≤_, _<_}
 use mathlib.Core.Path.{_≡_, refl, sym, ap, ap₂, _∙_}
 use mathlib.Core.Bool.{Bool, true, false}

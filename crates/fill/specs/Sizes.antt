@@ -60,7 +60,7 @@ pub record Tiled (rects amounts : List ℕ) (plan : Plan) : Type 0 where
   pub room : (i : ℕ) → getD amounts i 0 ≤ plan .side * plan .side
   pub layout : plan .across * plan .side ≤ widest
 
--- a row of such tiles, by its strip: a tile's load is no more than twice its area
+-- a row of such tiles, by its strip: 64 bits hold each load
 pub record RowTiled (lows highs amounts : List ℕ) (plan : Plan) (j : ℕ) : Type 0 where
   pub few : plan .across ≤ mostAcross
   pub row : j < plan .across

@@ -5,7 +5,7 @@ ghost use Prim.Native.Nat.{suc, _*_, _≤_};
 ghost use mathlib.Core.Path.{_≡_};
 ghost use Rattle.geometry.specs.Sizes.{widest};
 ghost use Rattle.geometry.specs.Layout.{rectsOf};
-ghost use Rattle.sweep.specs.Order.{sideOrder};
+ghost use Rattle.sweep.specs.Strips.{Swept};
 ghost use Rattle.fill.specs.Eligible.{tile, fillableArea};
 ghost use Rattle.fill.specs.Judge.{verdictOf};
 ghost use Rattle.fill.specs.Sizes.{SmallBox, Planned};
@@ -72,7 +72,7 @@ pub fn fillable(rects: &[u64], gap: u64, b: Rect) -> u64
 // sides is lent, as for the exact run.
 pub fn judge(rects: &[u64], order: &[usize], amounts: &[u64], plan: Plan) -> Verdict
     requires { ⌜ Planned (now rects) (now amounts) plan ⌝ }
-    requires { ⌜ now order ≡ sideOrder (now rects) ⌝ }
+    requires { ⌜ Swept (now rects) (now order) ⌝ }
     ensures { λ v. ⌜ v ≡ verdictOf (rectsOf (now (rects .entry))) (now (amounts .entry)) plan ⌝ }
 {
     let mut table = [0u64; TILES_ROOM];

@@ -2,11 +2,9 @@
 use crate::Plan;
 use sweep::STRIP_ROOM;
 ghost use Prim.Native.Nat.{suc, _*_, _≤_, _<_};
-ghost use mathlib.Core.Path.{_≡_};
 ghost use lib.ListN.{length};
 ghost use Rattle.geometry.specs.Layout.{rectsOf};
-ghost use Rattle.sweep.specs.Order.{sideOrder};
-ghost use Rattle.sweep.specs.Strips.{stripRoom, Strip};
+ghost use Rattle.sweep.specs.Strips.{stripRoom, Strip, Swept};
 ghost use Rattle.fill.specs.Sizes.{Tiled, RowTiled};
 ghost use Rattle.fill.specs.Windows.{loadOf, loadAlong, Filled};
 
@@ -41,7 +39,7 @@ fn set_row_at(
     highs: &mut [u64],
 )
     requires { ⌜ Tiled (now rects) (now amounts) plan ⌝ }
-    requires { ⌜ (now order ≡ sideOrder (now rects)) × (j < plan .across) ⌝ }
+    requires { ⌜ Swept (now rects) (now order) × (j < plan .across) ⌝ }
     requires { ⌜ plan .across * plan .across ≤ length (now out) ⌝ }
     requires { ⌜ (stripRoom ≤ length (now lows)) × (stripRoom ≤ length (now highs)) ⌝ }
     ensures { λ _. ⌜ Filled (loadOf (rectsOf (now (rects .entry))) (now (amounts .entry)) plan) (now (out .entry)) (now (out .exit)) (j * plan .across) (suc j * plan .across) ⌝ }
@@ -62,7 +60,7 @@ pub(crate) fn set_loads(
     out: &mut [u64],
 )
     requires { ⌜ Tiled (now rects) (now amounts) plan ⌝ }
-    requires { ⌜ now order ≡ sideOrder (now rects) ⌝ }
+    requires { ⌜ Swept (now rects) (now order) ⌝ }
     requires { ⌜ plan .across * plan .across ≤ length (now out) ⌝ }
     ensures { λ _. ⌜ Filled (loadOf (rectsOf (now (rects .entry))) (now (amounts .entry)) plan) (now (out .entry)) (now (out .exit)) 0 (plan .across * plan .across) ⌝ }
 {

@@ -10,10 +10,8 @@ ghost use Rattle.geometry.specs.Layout.{rectsOf, sharesSquare, coverOf, 
 ghost use Rattle.geometry.specs.Overlaps.{rectAt, common, overlap};
 ghost use Rattle.geometry.specs.Extreme.{better, replaced};
 
-// How many rectangles may be drawn, and the numbers of so many in a table.
+// How many rectangles may be drawn.
 pub const MOST_RECTS: usize = 1024;
-
-pub const RECTS_ROOM: usize = 4 * MOST_RECTS;
 
 // The unit squares from x1 to before x2 and from y1 to before y2: a drawn
 // rectangle, a window, a tile.

@@ -95,7 +95,8 @@ fn ordered_phase(phase: u64, head: Head, rects: &[u64], order: &[usize], amounts
     0
 }
 
-// Sorting the sides counts with the phases that need it, and not with reading.
+// Sorting the sides counts with the other phases, and not with reading, which is
+// phase 0.
 fn phase_number(phase: u64, head: Head, rects: &[u64], amounts: &[u64]) -> u64
     requires { ⌜ Ready head (now rects) (now amounts) ⌝ }
     ensures { λ r. ⌜ r ≡ phaseNumber phase (answerOf (standingOf head (now (rects .entry)) (now (amounts .entry)))) ⌝ }

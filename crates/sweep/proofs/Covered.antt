@@ -22,7 +22,7 @@ use Rattle.geometry.proofs.Overlaps.{overlap-is-area}
 use Rattle.sweep.specs.declared.Side.{Side}
 use Rattle.sweep.specs.declared.Side.the-variants.{Low, High}
 use Rattle.sweep.specs.Order.{column, columnOn, placesBy}
-use Rattle.sweep.specs.Strips.{sidePart, rowsOn, sidesAt, stripSides, sideSum, ramps, stripSum, Rising, Sides, Strip}
+use Rattle.sweep.specs.Strips.{sidePart, rowsOn, sidesAt, stripSides, sideSum, ramps, Rising, Sides, StripOf}
 use Rattle.sweep.proofs.Sums.{rising-weaken}
 use Rattle.sweep.proofs.Sorted.{Ascending, placeSum, places-sum, ordered-ascends, ordered-length}
 
@@ -187,18 +187,12 @@ module _ (t : List ℕ) (y1 y2 : ℕ) where
         box-cut-columns 0 y1 x2 y2 x1 (λ x y. one-if (covered (rectsOf t) x y)) (omega arith) h,
       )
 
--- what is lent to a sweep between the rows y1 and y2
-pub record StripOf (t : List ℕ) (y1 y2 : ℕ) (lows highs : List ℕ) : Type 0 where
-  pub low-is : lows ≡ stripSides t Low y1 y2
-  pub high-is : highs ≡ stripSides t High y1 y2
-  pub strip : Strip lows highs
-  pub areas : (x1 x2 : ℕ) → x1 ≤ x2 → stripSum lows highs x1 x2 ≡ coveredArea (rectsOf t) (record { x1 = x1; y1 = y1; x2 = x2; y2 = y2 })
-
+-- so what the rows hold is a strip of theirs
 strip-of : (t : List ℕ) (y1 y2 : ℕ) → Drawn t → StripOf t y1 y2 (stripSides t Low y1 y2) (stripSides t High y1 y2)
 strip-of t y1 y2 d =
     record {
-      low-is = refl;
-      high-is = refl;
+      low = refl;
+      high = refl;
       strip =
           record {
             low = strip-sides t Low y1 y2 d;

@@ -18,7 +18,7 @@ use Rattle.sweep.specs.declared.Cursor.{Cursor}
 use Rattle.sweep.specs.declared.Edges.{Edges}
 use Rattle.sweep.specs.declared.Frame.{Frame}
 use Rattle.sweep.specs.Strips.{sideSum, ramps, stripSum, Rising, Sides, Strip}
-use Rattle.sweep.specs.Cursors.{leftSum, cursorAt, isLeft, StandsBefore, edgesAt, EdgesBefore, frameAt, noSides, startFrame, Behind}
+use Rattle.sweep.specs.Cursors.{leftSum, cursorAt, isLeft, StandsBefore, edgesAt, EdgesBefore, frameAt, noSides, startFrame, Behind, Upright}
 use Rattle.sweep.proofs.Sums.{ramps-formed, rising-weaken, none-left, left-of, passedAt, left-split, rising-passed, passed-within, sum-small, left-small}
 
 -- ---- whether a side is left of a column
@@ -170,15 +170,14 @@ edges-before s e l r left right q h k u z =
       at-right = record { column = r; is = ap (λ (e : Edges). e .right) q; earlier = k; small = z };
     }
 
-module _ (lows highs : List ℕ) (f : Frame) (left right : ℕ) (b : Behind lows highs f left right) where
+module _ (lows highs : List ℕ) (f : Frame) (left right : ℕ) (b : Behind lows highs f left right) (u : Upright left right) where
   pub low-before : EdgesBefore lows (f .low) left right
   low-before =
-      edges-before lows (f .low) (f .left) (f .right) left right (ap (λ (f : Frame). f .low) (b .is)) (b .left-earlier) (b .right-earlier) (b .upright) (b .small)
+      edges-before lows (f .low) (f .left) (f .right) left right (ap (λ (f : Frame). f .low) (b .is)) (b .left-earlier) (b .right-earlier) (u .order) (u .small)
 
   pub high-before : EdgesBefore highs (f .high) left right
   high-before =
-      edges-before highs (f .high) (f .left) (f .right) left right (ap (λ (f : Frame). f .high) (b .is)) (b .left-earlier) (b .right-earlier) (b .upright)
-      (b .small)
+      edges-before highs (f .high) (f .left) (f .right) left right (ap (λ (f : Frame). f .high) (b .is)) (b .left-earlier) (b .right-earlier) (u .order) (u .small)
 
 ramps-small : (s : List ℕ) (x : ℕ) → Sides s → x ≤ widest → ramps s x ≤ largest * (2 * mostRects)
 ramps-small s x z h =
@@ -200,12 +199,12 @@ module _ (lows highs : List ℕ) (left right : ℕ) (low high : Edges) (e : low 
       record { left = left; right = right; area = low .right .ramps + high .left .ramps - (low .left .ramps + high .right .ramps); low = low; high = high })
       e f
 
-  module _ (s : Strip lows highs) (u : left ≤ right) (z : right ≤ widest) where
+  module _ (s : Strip lows highs) (u : Upright left right) where
     pub gained-fits : low .right .ramps + high .left .ramps ≤ 2 * (largest * (2 * mostRects))
-    gained-fits = omega (arith, low-ramps .1, high-ramps .0, ramps-small lows right (s .low) z, ramps-small highs left (s .high) (omega arith))
+    gained-fits = omega (arith, low-ramps .1, high-ramps .0, ramps-small lows right (s .low) (u .small), ramps-small highs left (s .high) (omega (arith, u .order, u .small)))
 
     pub lost-below : low .left .ramps + high .right .ramps ≤ low .right .ramps + high .left .ramps
-    lost-below = omega (arith, low-ramps .0, low-ramps .1, high-ramps .0, high-ramps .1, s .grows left right u)
+    lost-below = omega (arith, low-ramps .0, low-ramps .1, high-ramps .0, high-ramps .1, s .grows left right (u .order))
 
 -- the empty box at column 0 is one of every strip
 start-cursor : (s : List ℕ) → Sides s → noSides ≡ cursorAt s 0
@@ -223,7 +222,7 @@ start-cursor s z =
     no-ramps : 0 ≡ ramps s 0
     no-ramps = omega (arith, ramps-formed s 0)
 
-pub start-is : (lows highs : List ℕ) → Strip lows highs → startFrame ≡ frameAt lows highs 0 0
+start-is : (lows highs : List ℕ) → Strip lows highs → startFrame ≡ frameAt lows highs 0 0
 start-is lows highs s =
     λ i. record {
       left = 0;
@@ -235,3 +234,19 @@ start-is lows highs s =
   where
     no-area : 0 ≡ stripSum lows highs 0 0
     no-area = omega arith
+
+-- ---- where a box may move
+
+-- it is not right of any columns at first, and of none further right; where it was moved to, it is not right of columns from there on
+module _ (lows highs : List ℕ) (f : Frame) where
+  pub behind-start : (left right : ℕ) → Strip lows highs → f ≡ startFrame → Behind lows highs f left right
+  behind-start left right s e =
+      subst (λ (f : Frame). Behind lows highs f left right) (sym e) (record { is = start-is lows highs s; left-earlier = omega arith; right-earlier = omega arith })
+
+  pub behind-later : (left right l r : ℕ) → Behind lows highs f left right → left ≤ l → right ≤ r → Behind lows highs f l r
+  behind-later left right l r b h k =
+      record { is = b .is; left-earlier = omega (arith, b .left-earlier); right-earlier = omega (arith, b .right-earlier) }
+
+  pub behind-moved : (left right l r : ℕ) → f ≡ frameAt lows highs left right → left ≤ l → right ≤ r → Behind lows highs f l r
+  behind-moved left right l r e h k =
+      subst (λ (f : Frame). Behind lows highs f l r) (sym e) (record { is = refl; left-earlier = h; right-earlier = k })

@@ -56,10 +56,13 @@ noEdges = record { left = noSides; right = noSides }
 abbrev pub startFrame : Frame
 startFrame = record { left = 0; right = 0; area = 0; low = noEdges; high = noEdges }
 
--- a box of a strip may move to the columns `left` and `right`
+-- a box of a strip is not right of the columns `left` and `right`
 pub record Behind (lows highs : List ℕ) (f : Frame) (left right : ℕ) : Type 0 where
   pub is : f ≡ frameAt lows highs (f .left) (f .right)
   pub left-earlier : f .left ≤ left
   pub right-earlier : f .right ≤ right
-  pub upright : left ≤ right
+
+-- two columns in their order, no larger than a layout
+pub record Upright (left right : ℕ) : Type 0 where
+  pub order : left ≤ right
   pub small : right ≤ widest

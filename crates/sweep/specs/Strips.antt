@@ -1,6 +1,6 @@
 -- Strips: what some rows hold of the rectangles, as two lists of sides, two numbers to a side: its column and the rows of its rectangle. A buyer
 -- need not read it, since no contract of the unit's public functions names it: for disjoint rectangles `stripSum` of a strip equals `coveredArea`
--- (proofs/Strips.antt).
+-- (`StripOf`, which `sweep::strip` gives).
 use Prim.Native.Nat.{ℕ, _+_, _-_, _*_, _≤_}
 use mathlib.Core.Path.{_≡_}
 use mathlib.Core.Bool.{true, false}
@@ -8,9 +8,10 @@ use mathlib.Core.List.{List, [], _∷_, _++_}
 use lib.Dec.{ltb}
 use lib.ListN.{length, getD}
 use Rattle.geometry.specs.Sizes.{widest, mostRects}
-use Rattle.geometry.specs.Layout.{Drawn}
+use Rattle.geometry.specs.Layout.{coveredArea, rectsOf, Drawn}
 use Rattle.geometry.specs.Overlaps.{common}
 use Rattle.sweep.specs.declared.Side.{Side}
+use Rattle.sweep.specs.declared.Side.the-variants.{Low, High}
 use Rattle.sweep.specs.Order.{columnOn, placesBy, sideOrder}
 
 -- the numbers of so many sides, as `STRIP_ROOM` in src/
@@ -54,7 +55,7 @@ Rising b [] = Unit {0}
 Rising b (v ∷ []) = Unit {0}
 Rising b (v ∷ h ∷ s) = (b ≤ v) × Rising v s
 
--- what a sweep asks of a list of sides: at most 1,024 in rising order, and no number past 2^20
+-- what a sweep asks of a list of sides: at most 1,024, two numbers each, in rising order, and no number past 2^20
 pub record Sides (s : List ℕ) : Type 0 where
   pub few : length s ≤ stripRoom
   pub small : (i : ℕ) → getD s i 0 ≤ widest
@@ -66,7 +67,14 @@ pub record Strip (lows highs : List ℕ) : Type 0 where
   pub high : Sides highs
   pub grows : (x1 x2 : ℕ) → x1 ≤ x2 → ramps lows x1 + ramps highs x2 ≤ ramps lows x2 + ramps highs x1
 
--- and of a job: rectangles, and the order of their sides
+-- and of a job: rectangles, and the order of their sides, which `order_sides` gives
 pub record Swept (rects order : List ℕ) : Type 0 where
   pub drawn : Drawn rects
   pub ordered : order ≡ sideOrder rects
+
+-- the strip of the rows y1 to y2: its two lists, and that what is added up along it is the true area of every box between those rows
+pub record StripOf (rects : List ℕ) (y1 y2 : ℕ) (lows highs : List ℕ) : Type 0 where
+  pub low : lows ≡ stripSides rects Low y1 y2
+  pub high : highs ≡ stripSides rects High y1 y2
+  pub strip : Strip lows highs
+  pub areas : (x1 x2 : ℕ) → x1 ≤ x2 → stripSum lows highs x1 x2 ≡ coveredArea (rectsOf rects) (record { x1 = x1; y1 = y1; x2 = x2; y2 = y2 })

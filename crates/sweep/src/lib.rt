@@ -11,12 +11,12 @@ mod strips;
 
 ghost use Prim.Native.Nat.{_*_, _/_, _≤_};
 ghost use mathlib.Core.Path.{_≡_};
-ghost use lib.ListN.{length};
+ghost use lib.ListN.{length, take};
 ghost use Rattle.buffers.specs.Written.{Front};
 ghost use Rattle.sweep.specs.declared.Side.the-variants.{Low, High};
 ghost use Rattle.sweep.specs.Order.{sideOrder};
-ghost use Rattle.sweep.specs.Strips.{stripSides, Strip};
-ghost use Rattle.sweep.specs.Cursors.{startFrame, frameAt, Behind};
+ghost use Rattle.sweep.specs.Strips.{stripRoom, stripSides, Strip, Swept, StripOf};
+ghost use Rattle.sweep.specs.Cursors.{startFrame, frameAt, Behind, Upright};
 use geometry::MOST_RECTS;
 
 // Room for the places of the low sides and those of the high sides, and for the
@@ -32,8 +32,8 @@ pub enum Side {
 }
 
 // Where a sum over the sides of a strip stands, at some column: how many numbers
-// of the list are of sides left of it, the sum of their rows, the sum of rows ×
-// column, and the sum of their ramps.
+// of the list are of sides left of it, the sum of their rows and the sum of rows ×
+// column, which are carried along; and the sum of their ramps, which these give.
 pub struct Cursor {
     pub passed: usize,
     pub rows: u64,
@@ -75,7 +75,7 @@ pub fn order_sides(rects: &[u64], out: &mut [usize]) -> usize
 }
 
 // Writes the low and the high sides that the rows y1 to y2 hold at the fronts of
-// two buffers.
+// two buffers: a strip, along which a box's area is the true one.
 pub fn strip(
     rects: &[u64],
     order: &[usize],
@@ -84,10 +84,11 @@ pub fn strip(
     lows: &mut [u64],
     highs: &mut [u64],
 ) -> Lengths
-    requires { ⌜ now order ≡ sideOrder (now rects) ⌝ }
-    requires { ⌜ (2 * (length (now rects) / 4) ≤ length (now lows)) × (2 * (length (now rects) / 4) ≤ length (now highs)) ⌝ }
+    requires { ⌜ Swept (now rects) (now order) ⌝ }
+    requires { ⌜ (stripRoom ≤ length (now lows)) × (stripRoom ≤ length (now highs)) ⌝ }
     ensures { λ r. ⌜ Front (now (lows .entry)) (stripSides (now (rects .entry)) Low y1 y2) (now (lows .exit)) (r .low) ⌝ }
     ensures { λ r. ⌜ Front (now (highs .entry)) (stripSides (now (rects .entry)) High y1 y2) (now (highs .exit)) (r .high) ⌝ }
+    ensures { λ r. ⌜ StripOf (now (rects .entry)) y1 y2 (take (r .low) (now (lows .exit))) (take (r .high) (now (highs .exit))) ⌝ }
 {
     let half = rects.len() / 4;
     let low = strips::sides_of(rects, &order[..half], Side::Low, y1, y2, lows);
@@ -118,10 +119,12 @@ pub fn start_frame() -> Frame
     }
 }
 
-// Moves a box to the right, each of its edges by itself.
+// Moves a box to the right, each of its edges by itself: from the true area at one
+// place to the true area at the next.
 pub fn move_to(lows: &[u64], highs: &[u64], from: Frame, left: u64, right: u64) -> Frame
     requires { ⌜ Strip (now lows) (now highs) ⌝ }
     requires { ⌜ Behind (now lows) (now highs) from left right ⌝ }
+    requires { ⌜ Upright left right ⌝ }
     ensures { λ r. ⌜ r ≡ frameAt (now (lows .entry)) (now (highs .entry)) left right ⌝ }
 {
     let low = cursors::move_edges(lows, from.low, left, right);

@@ -43,13 +43,9 @@ row-above g j z h = mul-le-mul {n₂ = startsRoom} (omega (arith, starts-small g
 pub row-place : (g : Grid) (j : ℕ) → Sized g → j ≤ g .starts → j * g .starts ≤ levelRoom
 row-place g j z h = mul-le-mul {n₂ = startsRoom} (omega (arith, starts-small g z)) (starts-small g z)
 
--- a loop that has gone through all k ends with the definition's k
-pub all-done : (A : Type 0) (f : ℕ → A) (k i : ℕ) (a : A) → i ≤ k → a ≡ f i → k ≤ i → a ≡ f k
-all-done A f k i a h e l = e ∙ ap f (omega arith)
-
 -- ---- the first pass
 
-pub looked-at : (s : Sense) (f : ℕ → ℕ → ℕ) (x y area : ℕ) (best r : Spot) → area ≡ f x y → r ≡ replaced s best (record { area = area; x = x; y = y }) →
+looked-at : (s : Sense) (f : ℕ → ℕ → ℕ) (x y area : ℕ) (best r : Spot) → area ≡ f x y → r ≡ replaced s best (record { area = area; x = x; y = y }) →
     r ≡ replaced s best (spotAt f x y)
 looked-at s f x y area best r e h = h ∙ ap (λ (a : ℕ). replaced s best (record { area = a; x = x; y = y })) e
 
@@ -105,7 +101,7 @@ module _ (s : Sense) (far at : ℕ) (before : Level) (new new′ : List ℕ) whe
       none : before .kept ≡ before .kept + one-if (better s far (before .named .area))
       none = rw h (omega arith)
 
-pub weighed-at : (s : Sense) (far far′ at : ℕ) (before after : Level) (new new′ : List ℕ) → far ≡ far′ → Weighed s far at before after new new′ →
+weighed-at : (s : Sense) (far far′ at : ℕ) (before after : Level) (new new′ : List ℕ) → far ≡ far′ → Weighed s far at before after new new′ →
     Weighed s far′ at before after new new′
 weighed-at s far far′ at before after new new′ e h = subst (λ (a : ℕ). Weighed s a at before after new new′) e h
 
@@ -149,10 +145,6 @@ flags-row-length s best f t at zero l = refl
 flags-row-length s best f t at (suc k) l =
     length-set (flagsInRow s best f t at k l) (at + k) (flagOf s best (f (k * t))) ∙ flags-row-length s best f t at k l
 
-pub row-begins : (s : Sense) (f : ℕ → ℕ) (t at : ℕ) (before : Level) (new : List ℕ) → RowSoFar s f t at 0 before before new new
-unfolding farInRow flagsInRow
-row-begins s f t at before new = record { search = refl; flags = refl }
-
 module _ (s : Sense) (f : ℕ → ℕ) (t at i : ℕ) (before after : Level) (new new′ : List ℕ) (so-far : RowSoFar s f t at i before after new new′) where
   pub row-named : after .named ≡ before .named
   row-named = ap (λ (v : Level). v .named) (so-far .search) ∙ far-row-named s f t i before
@@ -168,9 +160,6 @@ module _ (s : Sense) (f : ℕ → ℕ) (t at i : ℕ) (before after : Level) (ne
         stands = rw (so-far .search, far-row-named s f t i before) (far-row-stays s f t i before (z .stands));
       }
 
-  pub row-length : length new′ ≡ length new
-  row-length = ap length (so-far .flags) ∙ flags-row-length s (before .named .area) f t at i new
-
   pub row-advances : (r : Level) (l : List ℕ) → Weighed s (f (i * t)) (at + i) after r new′ l → RowSoFar s f t at (i + 1) before r new l
   unfolding farInRow flagsInRow
   row-advances r l w =
@@ -179,9 +168,6 @@ module _ (s : Sense) (f : ℕ → ℕ) (t at i : ℕ) (before after : Level) (ne
         flags = w .flags ∙ ap₂ (λ (m : List ℕ) (b : Spot). set m (at + i) (flagOf s (b .area) (f (i * t)))) (so-far .flags) row-named
             ∙ ap (λ (k : ℕ). flagsInRow s (before .named .area) f t at k new) (sym (add-one i));
       }
-
-  pub row-is-done : (k : ℕ) → i ≤ k → k ≤ i → RowSoFar s f t at k before after new new′
-  row-is-done k h l = subst (λ (m : ℕ). RowSoFar s f t at m before after new new′) (omega arith) so-far
 
 -- the first j rows were weighed
 pub record RowsSoFar (s : Sense) (f : ℕ → ℕ → ℕ) (t k j : ℕ) (before after : Level) (new new′ : List ℕ) : Type 0 where
@@ -236,10 +222,6 @@ flags-rows-length s best f t k zero l = refl
 flags-rows-length s best f t k (suc m) l =
     flags-row-length s best (λ x. f x (m * t)) t (m * k) k (flagsInRows s best f t k m l) ∙ flags-rows-length s best f t k m l
 
-pub rows-begin : (s : Sense) (f : ℕ → ℕ → ℕ) (t k : ℕ) (before : Level) (new : List ℕ) → RowsSoFar s f t k 0 before before new new
-unfolding farInRows flagsInRows
-rows-begin s f t k before new = record { search = refl; flags = refl }
-
 module _ (s : Sense) (f : ℕ → ℕ → ℕ) (t k j : ℕ) (before after : Level) (new new′ : List ℕ) (so-far : RowsSoFar s f t k j before after new new′) where
   pub rows-named : after .named ≡ before .named
   rows-named = ap (λ (v : Level). v .named) (so-far .search) ∙ far-rows-named s f t k j before
@@ -251,9 +233,6 @@ module _ (s : Sense) (f : ℕ → ℕ → ℕ) (t k j : ℕ) (before after : Lev
         stands = rw (so-far .search, far-rows-named s f t k j before) (far-rows-stay s f t k j before z);
       }
 
-  pub rows-length : length new′ ≡ length new
-  rows-length = ap length (so-far .flags) ∙ flags-rows-length s (before .named .area) f t k j new
-
   pub rows-advance : (r : Level) (l : List ℕ) → RowSoFar s (λ x. f x (j * t)) t (j * k) k after r new′ l → RowsSoFar s f t k (j + 1) before r new l
   unfolding farInRows flagsInRows
   rows-advance r l w =
@@ -263,9 +242,6 @@ module _ (s : Sense) (f : ℕ → ℕ → ℕ) (t k j : ℕ) (before after : Lev
         flags = w .flags ∙ ap₂ (λ (m : List ℕ) (b : Spot). flagsInRow s (b .area) (λ x. f x (j * t)) t (j * k) k m) (so-far .flags) rows-named
             ∙ ap (λ (i : ℕ). flagsInRows s (before .named .area) f t k i new) (sym (add-one j));
       }
-
-  pub rows-are-done : (m : ℕ) → j ≤ m → m ≤ j → RowsSoFar s f t k m before after new new′
-  rows-are-done m h l = subst (λ (i : ℕ). RowsSoFar s f t k i before after new new′) (omega arith) so-far
 
 -- ---- either pass
 

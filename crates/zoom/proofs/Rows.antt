@@ -9,14 +9,14 @@ use Rattle.geometry.specs.declared.Rect.{Rect}
 use Rattle.geometry.specs.declared.Sense.{Sense}
 use Rattle.geometry.specs.declared.Sense.the-variants.{Greatest, Least}
 use Rattle.geometry.specs.Layout.{coveredArea, rectsOf}
-use Rattle.sweep.proofs.Covered.{StripOf}
+use Rattle.sweep.specs.Strips.{StripOf}
 use Rattle.zoom.specs.declared.Grid.{Grid}
 use Rattle.zoom.specs.declared.Level.{Level}
 use Rattle.zoom.specs.declared.Pass.{Pass}
 use Rattle.zoom.specs.declared.Pass.the-variants.{Standard, Far}
 use Rattle.zoom.specs.Run.{farArea}
 use Rattle.zoom.specs.Grid.{Sized}
-use Rattle.zoom.specs.Strips.{spanFrom, spanTo, alongStrip}
+use Rattle.zoom.specs.Spans.{spanFrom, spanTo, alongStrip}
 use Rattle.zoom.specs.Passing.{HarmlessRow, Spares, flagsInRow, flagOf}
 use Rattle.zoom.specs.Weighing.{weighed, farInRow}
 use Rattle.zoom.specs.Passes.{stepOf, areaOn, withNamed, passInRow, flagsPassed}

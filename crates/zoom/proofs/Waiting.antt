@@ -1,18 +1,16 @@
--- A box that is carried along a row: it is not right of the next start's window, so it may move there.
+-- The windows of a row's starts, from left to right: a box that is carried along may move from each to the next.
 use Prim.Native.Nat.{ℕ, _+_, _*_, _≤_}
-use mathlib.Core.Path.{_≡_, refl, sym, subst}
+use mathlib.Core.Path.{_≡_}
 use mathlib.Core.List.{List}
 use native.Mathlib.Nat.{mul-le-mul-right}
 use native.Mathlib.Omega.{arith}
 use Rattle.geometry.specs.declared.Sense.{Sense}
 use Rattle.geometry.specs.declared.Sense.the-variants.{Greatest, Least}
 use Rattle.sweep.specs.declared.Frame.{Frame}
-use Rattle.sweep.specs.Strips.{Strip}
-use Rattle.sweep.specs.Cursors.{frameAt, startFrame, Behind}
-use Rattle.sweep.proofs.Moving.{start-is}
+use Rattle.sweep.specs.Cursors.{frameAt, Behind, Upright}
 use Rattle.zoom.specs.declared.Grid.{Grid}
 use Rattle.zoom.specs.Sizes.{spanRoom}
-use Rattle.zoom.specs.Strips.{spanFrom, spanTo, OnRow, Waits}
+use Rattle.zoom.specs.Spans.{spanFrom, spanTo, OnRow}
 use Rattle.zoom.proofs.PassLoops.{start-inside}
 
 -- ---- spans
@@ -36,45 +34,32 @@ span-inside Least n w u x h = omega arith
 
 -- ---- the box
 
-pub waits-first : (lows highs : List ℕ) (g : Grid) (u : ℕ) (f : Frame) → Strip lows highs → f ≡ startFrame → Waits lows highs g u 0 f
-waits-first lows highs g u f s e =
-    subst (λ (f : Frame). Waits lows highs g u 0 f) (sym e) (record { is = start-is lows highs s; left-earlier = omega arith; right-earlier = omega arith })
-
-module _ (lows highs : List ℕ) (g : Grid) (u i : ℕ) where
+module _ (g : Grid) (u i : ℕ) where
   further : i * g .t ≤ (i + 1) * g .t
   further = mul-le-mul-right (g .t) (omega arith)
 
-  pub waits-on : (f : Frame) → Waits lows highs g u i f → Waits lows highs g u (i + 1) f
-  waits-on f w =
-      record {
-        is = w .is;
-        left-earlier = omega (arith, w .left-earlier, from-grows (g .sense) u (i * g .t) ((i + 1) * g .t) further);
-        right-earlier = omega (arith, w .right-earlier, to-grows (g .sense) (g .n) (g .w) u (i * g .t) ((i + 1) * g .t) further);
-      }
+  -- the window of the next start begins and ends no earlier
+  pub from-next : spanFrom (g .sense) u (i * g .t) ≤ spanFrom (g .sense) u ((i + 1) * g .t)
+  from-next = from-grows (g .sense) u (i * g .t) ((i + 1) * g .t) further
 
-  pub waits-moved : (f : Frame) → f ≡ frameAt lows highs (spanFrom (g .sense) u (i * g .t)) (spanTo (g .sense) (g .n) (g .w) u (i * g .t)) →
-      Waits lows highs g u (i + 1) f
-  waits-moved f e =
-      subst (λ (f : Frame). Waits lows highs g u (i + 1) f) (sym e)
-      (record {
-        is = refl;
-        left-earlier = from-grows (g .sense) u (i * g .t) ((i + 1) * g .t) further;
-        right-earlier = to-grows (g .sense) (g .n) (g .w) u (i * g .t) ((i + 1) * g .t) further;
-      })
+  pub to-next : spanTo (g .sense) (g .n) (g .w) u (i * g .t) ≤ spanTo (g .sense) (g .n) (g .w) u ((i + 1) * g .t)
+  to-next = to-grows (g .sense) (g .n) (g .w) u (i * g .t) ((i + 1) * g .t) further
 
-  pub waits-behind : (f : Frame) (left right : ℕ) → OnRow g u i → Waits lows highs g u i f → left ≡ spanFrom (g .sense) u (i * g .t) →
-      right ≡ spanTo (g .sense) (g .n) (g .w) u (i * g .t) → Behind lows highs f left right
-  waits-behind f left right o w p q =
+  pub window-upright : (left right : ℕ) → OnRow g u i → left ≡ spanFrom (g .sense) u (i * g .t) → right ≡ spanTo (g .sense) (g .n) (g .w) u (i * g .t) →
+      Upright left right
+  window-upright left right o p q =
       record {
-        is = w .is;
-        left-earlier = omega (arith, p, w .left-earlier);
-        right-earlier = omega (arith, q, w .right-earlier);
-        upright = omega (arith, p, q, span-upright (g .sense) (g .n) (g .w) u (i * g .t) (o .step-fits) inside);
+        order = omega (arith, p, q, span-upright (g .sense) (g .n) (g .w) u (i * g .t) (o .step-fits) inside);
         small = omega (arith, q, span-inside (g .sense) (g .n) (g .w) u (i * g .t) inside, o .sized .small);
       }
     where
       inside : i * g .t + g .w ≤ g .n
       inside = start-inside g i (o .sized) (o .within)
+
+module _ (lows highs : List ℕ) (g : Grid) (u i : ℕ) where
+  pub window-behind : (f : Frame) (left right : ℕ) → left ≡ spanFrom (g .sense) u (i * g .t) → right ≡ spanTo (g .sense) (g .n) (g .w) u (i * g .t) →
+      Behind lows highs f (spanFrom (g .sense) u (i * g .t)) (spanTo (g .sense) (g .n) (g .w) u (i * g .t)) → Behind lows highs f left right
+  window-behind f left right p q b = rw (p, q) b
 
   pub frame-moved : (f : Frame) (left right : ℕ) → left ≡ spanFrom (g .sense) u (i * g .t) → right ≡ spanTo (g .sense) (g .n) (g .w) u (i * g .t) →
       f ≡ frameAt lows highs left right → f ≡ frameAt lows highs (spanFrom (g .sense) u (i * g .t)) (spanTo (g .sense) (g .n) (g .w) u (i * g .t))

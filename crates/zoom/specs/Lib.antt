@@ -1,7 +1,7 @@
 pub mod Run
 pub mod Sizes
 pub mod Grid
-pub mod Strips
+pub mod Spans
 pub mod Passing
 pub mod Weighing
 pub mod Passes

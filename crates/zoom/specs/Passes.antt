@@ -14,7 +14,7 @@ use Rattle.zoom.specs.declared.Level.{Level}
 use Rattle.zoom.specs.declared.Pass.{Pass}
 use Rattle.zoom.specs.declared.Pass.the-variants.{Standard, Far}
 use Rattle.zoom.specs.Grid.{Sized, farOn}
-use Rattle.zoom.specs.Strips.{alongStrip}
+use Rattle.zoom.specs.Spans.{alongStrip}
 use Rattle.zoom.specs.Passing.{flagOf, flagsInRow, flagsInRows, Spares}
 use Rattle.zoom.specs.Weighing.{weighed, farInRow, farInRows, Weighable}
 

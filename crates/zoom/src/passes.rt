@@ -5,9 +5,9 @@ ghost use Prim.Native.Nat.{_+_, _*_, _≤_};
 ghost use mathlib.Core.Path.{_≡_};
 ghost use lib.ListN.{length, set};
 ghost use Rattle.sweep.specs.Strips.{stripRoom, Strip};
-ghost use Rattle.sweep.specs.Cursors.{frameAt};
+ghost use Rattle.sweep.specs.Cursors.{frameAt, Behind};
 ghost use Rattle.zoom.specs.Sizes.{levelRoom, keptRoom};
-ghost use Rattle.zoom.specs.Strips.{spanFrom, spanTo, alongStrip, Waits, OnRow};
+ghost use Rattle.zoom.specs.Spans.{spanFrom, spanTo, alongStrip, OnRow};
 ghost use Rattle.zoom.specs.Passing.{flagOf, Passable, RowPassable};
 ghost use Rattle.zoom.specs.Weighing.{betterArea, weighed, Weighable};
 ghost use Rattle.zoom.specs.Passes.{stepOf, areaOn, looked, flagged, spared, passInRow, passInRows, flagsPassed, flagsPassedRows, Lookable, StripPassable};
@@ -96,7 +96,7 @@ fn step_of(pass: Pass, g: Grid) -> u64
 fn frame_at(lows: &[u64], highs: &[u64], g: Grid, u: u64, i: u64, from: Frame) -> Frame
     requires { ⌜ Strip (now lows) (now highs) ⌝ }
     requires { ⌜ OnRow g u i ⌝ }
-    requires { ⌜ Waits (now lows) (now highs) g u i from ⌝ }
+    requires { ⌜ Behind (now lows) (now highs) from (spanFrom (g .sense) u (i * g .t)) (spanTo (g .sense) (g .n) (g .w) u (i * g .t)) ⌝ }
     ensures { λ r. ⌜ r ≡ frameAt (now (lows .entry)) (now (highs .entry)) (spanFrom (g .sense) u (i * g .t)) (spanTo (g .sense) (g .n) (g .w) u (i * g .t)) ⌝ }
 {
     let sense = g.sense;

@@ -3,7 +3,7 @@
 ghost use Prim.Native.Nat.{_+_, _≤_};
 ghost use mathlib.Core.Path.{_≡_};
 ghost use Rattle.zoom.specs.Sizes.{spanRoom};
-ghost use Rattle.zoom.specs.Strips.{spanFrom, spanTo};
+ghost use Rattle.zoom.specs.Spans.{spanFrom, spanTo};
 use geometry::Sense;
 
 pub(crate) fn span_from(sense: Sense, u: u64, x: u64) -> u64

@@ -12,7 +12,7 @@ gained c =
     omega (
       arith,
       gained-fits (a .lows .now) (a .highs .now) (a .left) (a .right) _ _ (c .before .before .before .move-edges .ensures) (c .before .before .move-edges2 .ensures)
-          (s .pre .0) (s .pre .1 .upright) (s .pre .1 .small),
+          (s .pre .0) (s .pre .1 .1),
     )
 
 lost : tie.Need-add-t9
@@ -23,8 +23,8 @@ lost c =
     let high = c .before .before .before .before .move-edges2 .ensures in
     omega (
       arith,
-      gained-fits (a .lows .now) (a .highs .now) (a .left) (a .right) _ _ low high (s .pre .0) (s .pre .1 .upright) (s .pre .1 .small),
-      lost-below (a .lows .now) (a .highs .now) (a .left) (a .right) _ _ low high (s .pre .0) (s .pre .1 .upright) (s .pre .1 .small),
+      gained-fits (a .lows .now) (a .highs .now) (a .left) (a .right) _ _ low high (s .pre .0) (s .pre .1 .1),
+      lost-below (a .lows .now) (a .highs .now) (a .left) (a .right) _ _ low high (s .pre .0) (s .pre .1 .1),
     )
 
 difference : tie.Need-sub-t10
@@ -32,7 +32,7 @@ difference c =
     let s = c .before .before .before .before .before .before .before .before in
     let a = s .args in
     lost-below (a .lows .now) (a .highs .now) (a .left) (a .right) _ _ (c .before .before .before .before .before .move-edges .ensures)
-    (c .before .before .before .before .move-edges2 .ensures) (s .pre .0) (s .pre .1 .upright) (s .pre .1 .small)
+    (c .before .before .before .before .move-edges2 .ensures) (s .pre .0) (s .pre .1 .1)
 
 returns : tie.Need-returns
 returns c =

@@ -5,15 +5,17 @@ use mathlib.Core.Path.{sym}
 use native.Mathlib.Nat.{add-zero, add-assoc, suc-mul}
 use native.Mathlib.Omega.{arith}
 use borrow.Author.Needs.{needs}
+use Rattle.sweep.specs.Cursors.{Behind}
+use Rattle.sweep.proofs.Moving.{behind-start, behind-later, behind-moved}
 use Rattle.fill.specs.Windows.{loadAlong, Filled}
-use Rattle.fill.proofs.Loads.{filled-start, filled-next, filled-to, AtTile, at-first, at-next, tile-behind}
+use Rattle.fill.proofs.Loads.{filled-start, filled-next, filled-to, tile-end, tile-upright}
 use Rattle.fill.proofs.Loads.{tile-right, place-inside, place-small, load-fits, load-formed}
 use Rattle.fill.proofs.tiling.set_row.Statement.{statement}
 use Rattle.fill.proofs.tiling.set_row.Tie as tie
 
 abbrev Inv-loop : tie.InvT-loop
 Inv-loop lows highs amounts plan j out₀ side first frame₀ i₀ out frame i =
-    (i ≤ plan .across) × AtTile lows highs (plan .side) i frame
+    (i ≤ plan .across) × Behind lows highs frame (i * plan .side) (i * plan .side)
     × Filled (loadAlong lows highs amounts plan j) out₀ out (j * plan .across) (j * plan .across + i)
 
 abbrev μ-loop : tie.MeasureT-loop
@@ -25,14 +27,15 @@ mul-first c = let z = c .before .before .before .before .before .pre .1 .0 in om
 loop-holds : tie.Need-loop-holds Inv-loop μ-loop
 loop-holds c =
     let s = c .before .before .before .before .before .before in
-    (omega arith, at-first _ _ _ _ (s .pre .0) (c .start-frame .ensures), filled-to _ _ _ _ _ _ (filled-start _ _ _) (sym (add-zero (s .args .j * s .args .plan .across))))
+    (omega arith, behind-start _ _ _ _ _ (s .pre .0) (c .start-frame .ensures), filled-to _ _ _ _ _ _ (filled-start _ _ _) (sym (add-zero (s .args .j * s .args .plan .across))))
 
 move-to-requires : tie.Need-move-to-requires Inv-loop μ-loop
 move-to-requires c κs =
     let s = c .before .before .before .before .before .before .before .before .before in
-    let at = c .before .before .loop in
-    let right = tile-right _ _ _ _ _ _ (s .pre .1 .0) (c .if1 .taken) in
-    (s .pre .0, tile-behind _ _ _ _ _ (at .inv .1) right)
+    let at = c .before .before .loop in (
+      s .pre .0,
+      (behind-later _ _ _ _ _ _ _ (at .inv .1) (omega arith) (tile-end (s .args .plan .side) (at .i)), tile-upright _ _ _ _ _ _ (s .pre .1 .0) (c .if1 .taken)),
+    )
 
 left-fits : tie.Need-mul-move-to Inv-loop μ-loop
 left-fits c =
@@ -89,7 +92,7 @@ loop-again c =
     let more = c .before .before .before .if1 .taken in
     let moved = c .before .before .move-to .ensures in (
       omega (arith, more),
-      at-next _ _ _ _ _ moved,
+      behind-moved _ _ _ _ _ _ _ moved (tile-end (s .args .plan .side) (at .i)) (omega arith),
       filled-to _ _ _ _ _ _
           (filled-next _ _ _ _ _ _ (at .inv .2) (omega arith) (omega (arith, place-inside _ _ _ _ _ (at .i) (s .pre .1 .0) more, at .inv .2 .size, s .pre .1 .1))
           (load-formed _ _ _ _ _ (at .i) (s .pre .1 .0) more _ moved))

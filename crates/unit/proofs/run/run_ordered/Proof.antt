@@ -34,7 +34,7 @@ density-requires c κs =
 judge-requires : tie.Need-judge-requires
 judge-requires c κs =
     let s = c .before .before .before .before .before .before .before .before .before .before .before in
-    (planned (s .args .head) (s .args .rects .now) (s .args .amounts .now) (s .pre .0) (c .plan-of .ensures), s .pre .1 .ordered)
+    (planned (s .args .head) (s .args .rects .now) (s .args .amounts .now) (s .pre .0) (c .plan-of .ensures), s .pre .1)
 
 returns : tie.Need-returns
 returns c =

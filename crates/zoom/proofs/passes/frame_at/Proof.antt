@@ -1,6 +1,6 @@
 -- `zoom::passes::frame_at` meets its contract. Assumes nothing.
 use native.Mathlib.Omega.{arith}
-use Rattle.zoom.proofs.Waiting.{start-room, waits-behind, frame-moved}
+use Rattle.zoom.proofs.Waiting.{start-room, window-behind, window-upright, frame-moved}
 use Rattle.zoom.proofs.passes.frame_at.Statement.{statement}
 use Rattle.zoom.proofs.passes.frame_at.Tie as tie
 
@@ -15,10 +15,14 @@ span-to-requires c κs = let s = c .before .before .before .before in omega (ari
 
 move-to-requires : tie.Need-move-to-requires
 move-to-requires c κs =
-    let s = c .before .before .before .before .before in (
+    let s = c .before .before .before .before .before in
+    let from = c .before .span-from .ensures in
+    let to = c .span-to .ensures in (
       s .pre .0,
-      waits-behind (s .args .lows .now) (s .args .highs .now) (s .args .g) (s .args .u) (s .args .i) (s .args .from) _ _ (s .pre .1 .0) (s .pre .1 .1)
-          (c .before .span-from .ensures) (c .span-to .ensures),
+      (
+        window-behind (s .args .lows .now) (s .args .highs .now) (s .args .g) (s .args .u) (s .args .i) (s .args .from) _ _ from to (s .pre .1 .1),
+        window-upright (s .args .g) (s .args .u) (s .args .i) _ _ (s .pre .1 .0) from to,
+      ),
     )
 
 returns : tie.Need-returns

@@ -5,19 +5,21 @@ use mathlib.Core.Path.{sym, ap, _∙_}
 use native.Mathlib.Omega.{arith}
 use borrow.Author.Needs.{needs}
 use Rattle.sweep.specs.declared.Frame.{Frame}
+use Rattle.sweep.specs.Cursors.{Behind}
+use Rattle.sweep.proofs.Moving.{behind-start, behind-later, behind-moved}
 use Rattle.zoom.specs.Sizes.{startsRoom, levelRoom}
-use Rattle.zoom.specs.Strips.{alongStrip, Waits}
+use Rattle.zoom.specs.Spans.{spanFrom, spanTo, alongStrip}
 use Rattle.zoom.specs.Passes.{stepOf}
 use Rattle.zoom.proofs.PassLoops.{starts-small, start-inside, row-above, row-place}
 use Rattle.zoom.proofs.PassLoops.{PassSoFar, pass-begins, pass-lookable, pass-looks, pass-skips, pass-done, pass-length}
-use Rattle.zoom.proofs.Waiting.{waits-first, waits-on, waits-moved}
+use Rattle.zoom.proofs.Waiting.{from-next, to-next}
 use Rattle.zoom.proofs.Rows.{step-small}
 use Rattle.zoom.proofs.passes.row.Statement.{statement}
 use Rattle.zoom.proofs.passes.row.Tie as tie
 
 abbrev Inv-loop : tie.InvT-loop
 Inv-loop pass lows highs flags new₀ g j sense u above at y frame₀ so-far₀ i₀ new frame so-far i =
-    (i ≤ g .starts) × Waits lows highs g u i frame
+    (i ≤ g .starts) × Behind lows highs frame (spanFrom (g .sense) u (i * g .t)) (spanTo (g .sense) (g .n) (g .w) u (i * g .t))
     × PassSoFar pass (g .sense) (alongStrip lows highs g (stepOf pass g)) (g .t) (j * g .t) (j * g .starts) i so-far₀ so-far new₀ new
 
 abbrev μ-loop : tie.MeasureT-loop
@@ -41,7 +43,7 @@ mul-y c =
 loop-holds : tie.Need-loop-holds Inv-loop μ-loop
 loop-holds c =
     let s = c .before .before .before .before .before .before .before .before .before in
-    (omega arith, waits-first _ _ _ _ _ (s .pre .0 .strip) (c .start-frame .ensures), pass-begins (s .args .pass) _ _ _ _ _ _ _)
+    (omega arith, behind-start _ _ _ _ _ (s .pre .0 .strip) (c .start-frame .ensures), pass-begins (s .args .pass) _ _ _ _ _ _ _)
 
 loop-again : tie.Need-loop-again Inv-loop μ-loop
 loop-again c =
@@ -51,7 +53,7 @@ loop-again c =
     let more = c .before .before .before .before .before .before .if1 .taken in
     let flagged = sym (c .before .before .before .before .before .flag-at .ensures) ∙ c .before .before .before .before .if2 .taken in (
       omega (arith, more),
-      waits-on _ _ _ _ _ _ (at .inv .1),
+      behind-later _ _ _ _ _ _ _ (at .inv .1) (from-next (a .g) _ (at .i)) (to-next (a .g) _ (at .i)),
       pass-skips (a .pass) _ _ _ _ _ _ _ _ _ _ (at .inv .2) (a .g .starts) (a .flags .now) (a .g .stride) (a .j) _ (s .pre .0 .spare) more (few s) flagged (s .pre .1)
           (c .before .before .pass-over .ensures),
     )
@@ -86,7 +88,7 @@ loop-again-2 c =
     let look = c .before .before .look in
     let x = at .i * a .g .t in (
       omega (arith, c .before .before .before .before .before .before .before .before .if1 .taken),
-      waits-moved _ _ _ _ _ _ frame,
+      behind-moved _ _ _ _ _ _ _ frame (from-next (a .g) _ (at .i)) (to-next (a .g) _ (at .i)),
       pass-looks (a .pass) _ _ _ _ _ _ _ _ _ _ (at .inv .2) _ _ _
           (ap (λ (f : Frame). f .area) frame ∙ ap (λ (u : ℕ). alongStrip (a .lows .now) (a .highs .now) (a .g) u x (a .j * a .g .t)) (c .before .before .before .before .before .before .before .before .before .before .before .before .before .before .before .step-of .ensures))
           (look .ensures .0) (look .ensures .1),

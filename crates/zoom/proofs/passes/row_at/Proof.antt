@@ -3,7 +3,6 @@ use mathlib.Core.Path.{_∙_}
 use native.Mathlib.Omega.{arith}
 use borrow.Author.Needs.{needs}
 use Rattle.buffers.proofs.Fronts.{front-fits, front-count}
-use Rattle.sweep.proofs.Covered.{strip-lent}
 use Rattle.zoom.proofs.PassLoops.{start-inside}
 use Rattle.zoom.proofs.Rows.{step-small, strip-of-pass, harmless-strip, row-by-strip, flags-by-strip}
 use Rattle.zoom.proofs.passes.row_at.Statement.{statement}
@@ -41,20 +40,16 @@ span-to-requires c κs =
     )
 
 strip-requires : tie.Need-strip-requires
-strip-requires c κs =
-    let s = c .before .before .before .before .before .before .before .before .before .before .before .before in
-    let r = s .pre .0 .swept in
-    (r .ordered, (omega (arith, r .drawn .few, s .pre .1 .1 .0), omega (arith, r .drawn .few, s .pre .1 .1 .1)))
+strip-requires c κs = let s = c .before .before .before .before .before .before .before .before .before .before .before .before in (s .pre .0 .swept, s .pre .1 .1)
 
 row-requires : tie.Need-row-requires
 row-requires c κs =
     let s = c .before .before .before .before .before .before .before .before .before .before .before .before .before .before .before .before .before .before .before .before in
     let a = s .args in
     let r = s .pre .0 in
-    let lent = c .before .before .before .before .before .before .before .strip .ensures in
     let strip =
     strip-of-pass (a .pass) (a .rects .now) (a .g) (a .j) _ _ _ _ _ (c .before .before .before .before .before .before .before .before .before .before .before .before .before .step-of .ensures) (c .before .before .before .before .before .before .before .before .before .before .before .span-from .ensures) (c .before .before .before .before .before .before .before .before .before .before .span-to .ensures)
-    (strip-lent (a .rects .now) _ _ _ _ _ _ _ _ (r .swept .drawn) (lent .0) (lent .1)) in (
+    (c .before .before .before .before .before .before .before .strip .ensures .1 .1) in (
       record {
         strip = strip .strip;
         sized = r .sized;
@@ -70,10 +65,9 @@ returns c =
     let a = s .args in
     let r = s .pre .0 in
     let row = c .before .before .row .ensures in
-    let lent = c .before .before .before .before .before .before .before .before .before .before .strip .ensures in
     let strip =
     strip-of-pass (a .pass) (a .rects .now) (a .g) (a .j) _ _ _ _ _ (c .before .before .before .before .before .before .before .before .before .before .before .before .before .before .before .before .step-of .ensures) (c .before .before .before .before .before .before .before .before .before .before .before .before .before .before .span-from .ensures) (c .before .before .before .before .before .before .before .before .before .before .before .before .before .span-to .ensures)
-    (strip-lent (a .rects .now) _ _ _ _ _ _ _ _ (r .swept .drawn) (lent .0) (lent .1)) in (
+    (c .before .before .before .before .before .before .before .before .before .before .strip .ensures .1 .1) in (
       row .0 ∙ row-by-strip (a .pass) (a .rects .now) (a .g) (a .j) (r .sized) (r .within) _ _ strip (a .before),
       row .1 ∙ flags-by-strip (a .pass) (a .rects .now) (a .g) (a .j) (r .sized) (r .within) _ _ strip _ _ _,
     )
@@ -89,8 +83,8 @@ row-at-spec =
     strip-requires
     (λ c. front-fits _ _ _ _ (c .before .before .before .before .strip .ensures .0))
     (λ c. front-count _ _ _ _ (c .before .before .before .before .before .strip .ensures .0))
-    (λ c. front-fits _ _ _ _ (c .before .before .before .before .before .strip .ensures .1))
-    (λ c. front-count _ _ _ _ (c .before .before .before .before .before .before .strip .ensures .1))
+    (λ c. front-fits _ _ _ _ (c .before .before .before .before .before .strip .ensures .1 .0))
+    (λ c. front-count _ _ _ _ (c .before .before .before .before .before .before .strip .ensures .1 .0))
     row-requires
     (λ c. search needs)
     (λ c. search needs)

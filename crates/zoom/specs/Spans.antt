@@ -1,13 +1,10 @@
 -- How the code reads areas: windows by their spans, and a row of windows by its strip. A buyer need not read it: no contract of a public function
 -- names it. The step u that windows are bloated or shrunk by is the level's in the second pass, and 0, which leaves them standard, in the first.
-use Prim.Native.Nat.{ℕ, _+_, _*_, _≤_, _<_, min}
-use mathlib.Core.Path.{_≡_}
+use Prim.Native.Nat.{ℕ, _+_, _≤_, _<_, min}
 use mathlib.Core.List.{List}
 use Rattle.geometry.specs.declared.Sense.{Sense}
 use Rattle.geometry.specs.declared.Sense.the-variants.{Greatest, Least}
-use Rattle.sweep.specs.declared.Frame.{Frame}
 use Rattle.sweep.specs.Strips.{stripSum}
-use Rattle.sweep.specs.Cursors.{frameAt}
 use Rattle.zoom.specs.declared.Grid.{Grid}
 use Rattle.zoom.specs.Grid.{Sized}
 
@@ -29,9 +26,3 @@ pub record OnRow (g : Grid) (u i : ℕ) : Type 0 where
   pub sized : Sized g
   pub step-fits : u ≤ g .w
   pub within : i < g .starts
-
--- a box of the strip is not right of the far window of start i
-pub record Waits (lows highs : List ℕ) (g : Grid) (u i : ℕ) (f : Frame) : Type 0 where
-  pub is : f ≡ frameAt lows highs (f .left) (f .right)
-  pub left-earlier : f .left ≤ spanFrom (g .sense) u (i * g .t)
-  pub right-earlier : f .right ≤ spanTo (g .sense) (g .n) (g .w) u (i * g .t)
