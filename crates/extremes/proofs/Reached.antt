@@ -58,16 +58,14 @@ module _ (shift last : ℕ) where
   reached : (p v : ℕ) → v ≡ p + shift → p ≤ last → isReached shift last v ≡ true
   reached p v e h = ap₂ _&&_ (le-leb shift v (omega arith)) (le-leb (v - shift) last (omega arith))
 
-  -- what holds of a list with and without a position holds with it if it is reached
   module _ (v h : ℕ) (s : List ℕ) where
-    pub position-first : isReached shift last v ≡ true → positionsOf shift last (v ∷ h ∷ s) ≡ (v - shift) ∷ positionsOf shift last s
+    -- a side adds its position, if that is reached
+    pub positions-cons : (t : Bool) → isReached shift last v ≡ t →
+        positionsOf shift last (v ∷ h ∷ s) ≡ elim t [ true ↦ (v - shift) ∷ positionsOf shift last s | false ↦ positionsOf shift last s ]
     unfolding positionsOf
-    position-first e = ap (λ (t : Bool). elim t [ true ↦ (v - shift) ∷ positionsOf shift last s | false ↦ positionsOf shift last s ]) e
+    positions-cons t e = ap (λ (t : Bool). elim t [ true ↦ (v - shift) ∷ positionsOf shift last s | false ↦ positionsOf shift last s ]) e
 
-    pub position-skipped : isReached shift last v ≡ false → positionsOf shift last (v ∷ h ∷ s) ≡ positionsOf shift last s
-    unfolding positionsOf
-    position-skipped e = ap (λ (t : Bool). elim t [ true ↦ (v - shift) ∷ positionsOf shift last s | false ↦ positionsOf shift last s ]) e
-
+    -- so what holds with it and without holds of the list
     position-either : (P : List ℕ → Type 0) → (isReached shift last v ≡ true → P ((v - shift) ∷ positionsOf shift last s)) →
         P (positionsOf shift last s) → P (positionsOf shift last (v ∷ h ∷ s))
     unfolding positionsOf
@@ -90,7 +88,7 @@ module _ (shift last : ℕ) where
   positions-complete p (v ∷ w ∷ s) h k = go (ℕ-discrete v (p + shift)) (positions-complete p s h)
     where
       go : Dec (v ≡ p + shift) → (0 < sideSum (at (p + shift)) s → List·Memᴰ p (positionsOf shift last s)) → List·Memᴰ p (positionsOf shift last (v ∷ w ∷ s))
-      go (yes e) ih = subst (List·Memᴰ p) (sym (position-first v w s (reached p v e h))) (List·Memᴰ·head (omega arith))
+      go (yes e) ih = subst (List·Memᴰ p) (sym (positions-cons v w s true (reached p v e h))) (List·Memᴰ·head (omega arith))
       go (no e) ih =
           let m = ih (omega (arith, at-other (p + shift) v w e)) in
           position-either v w s (List·Memᴰ p) (λ _. List·Memᴰ·tail m) m

@@ -20,7 +20,7 @@ use Rattle.extremes.specs.declared.searching.Tried.{Tried}
 use Rattle.extremes.specs.Exact.{windowArea}
 use Rattle.extremes.specs.Search.{leading, passed, leadingInRow, stripArea, isReached, positionsOf, nearOf, farOf, triedIn, triedRow, triedAt, triedBy, SmallRow}
 use Rattle.extremes.proofs.Steps.{passed-cong, passed-append}
-use Rattle.extremes.proofs.Reached.{position-first, position-skipped, short-positions}
+use Rattle.extremes.proofs.Reached.{positions-cons, short-positions}
 
 -- ---- one window
 
@@ -52,14 +52,14 @@ tried-behind lows highs row x p b t e h = behind-moved lows highs (t .frame) x (
 
 -- ---- the sides of a list, from left to right
 
-module _ (lows highs : List ℕ) (row : Row) (sides : List ℕ) (shift : ℕ) (start : Spot) where
-  -- the windows that the positions of a list stand for
-  abbrev searched : List ℕ → Spot → Spot
-  searched xs b = leadingInRow (row .sense) (stripArea lows highs (row .w)) xs (row .y) b
+-- the leading one of a row's windows at the positions of a list
+abbrev along : (lows highs : List ℕ) → Row → List ℕ → Spot → Spot
+along lows highs row xs b = leadingInRow (row .sense) (stripArea lows highs (row .w)) xs (row .y) b
 
+module _ (lows highs : List ℕ) (row : Row) (sides : List ℕ) (shift : ℕ) (start : Spot) where
   -- the sides before place i were tried; those that are left rise from `reached` on, and the box is not right of where they reach
   pub record Searching (t : Tried) (i : ℕ) : Type 0 where
-    pub whole : searched (positionsOf shift (row .last) (drop i sides)) (t .best) ≡ searched (positionsOf shift (row .last) sides) start
+    pub whole : along lows highs row (positionsOf shift (row .last) (drop i sides)) (t .best) ≡ along lows highs row (positionsOf shift (row .last) sides) start
     pub reached : ℕ
     pub rises : Rising reached (drop i sides)
     pub behind : Behind lows highs (t .frame) (reached - shift) (reached - shift + row .w)
@@ -84,10 +84,10 @@ module _ (lows highs : List ℕ) (row : Row) (sides : List ℕ) (shift : ℕ) (s
       unfolding Rising
       here = subst (Rising (z .reached)) (two-at sides i inside) (z .rises)
 
-      left : searched (positionsOf shift (row .last) (getD sides i 0 ∷ getD sides (suc i) 0 ∷ drop (suc (suc i)) sides)) (t .best)
-          ≡ searched (positionsOf shift (row .last) sides) start
+      left : along lows highs row (positionsOf shift (row .last) (getD sides i 0 ∷ getD sides (suc i) 0 ∷ drop (suc (suc i)) sides)) (t .best)
+          ≡ along lows highs row (positionsOf shift (row .last) sides) start
       left =
-          subst (λ (l : List ℕ). searched (positionsOf shift (row .last) l) (t .best) ≡ searched (positionsOf shift (row .last) sides) start)
+          subst (λ (l : List ℕ). along lows highs row (positionsOf shift (row .last) l) (t .best) ≡ along lows highs row (positionsOf shift (row .last) sides) start)
           (two-at sides i inside) (z .whole)
 
       pub searching-may : Behind lows highs (t .frame) (getD sides i 0 - shift) (getD sides i 0 - shift + row .w)
@@ -110,8 +110,8 @@ module _ (lows highs : List ℕ) (row : Row) (sides : List ℕ) (shift : ℕ) (s
           go true k =
               record {
                 whole =
-                    subst (λ (l : List ℕ). searched l (t .best) ≡ searched (positionsOf shift (row .last) sides) start)
-                    (position-first shift (row .last) v (getD sides (suc i) 0) rest k) left;
+                    subst (λ (l : List ℕ). along lows highs row l (t .best) ≡ along lows highs row (positionsOf shift (row .last) sides) start)
+                    (positions-cons shift (row .last) v (getD sides (suc i) 0) rest true k) left;
                 reached = v;
                 rises = here .1;
                 behind = record { is = refl; left-earlier = omega arith; right-earlier = omega arith };
@@ -120,40 +120,37 @@ module _ (lows highs : List ℕ) (row : Row) (sides : List ℕ) (shift : ℕ) (s
           go false k =
               record {
                 whole =
-                    subst (λ (l : List ℕ). searched l (t .best) ≡ searched (positionsOf shift (row .last) sides) start)
-                    (position-skipped shift (row .last) v (getD sides (suc i) 0) rest k) left;
+                    subst (λ (l : List ℕ). along lows highs row l (t .best) ≡ along lows highs row (positionsOf shift (row .last) sides) start)
+                    (positions-cons shift (row .last) v (getD sides (suc i) 0) rest false k) left;
                 reached = v;
                 rises = here .1;
                 behind = searching-may;
                 within = inside;
               }
 
-    pub searching-ends : length sides ≤ i + 1 → t .best ≡ searched (positionsOf shift (row .last) sides) start
+    pub searching-ends : length sides ≤ i + 1 → t .best ≡ along lows highs row (positionsOf shift (row .last) sides) start
     unfolding passed
     searching-ends h =
-        subst (λ (l : List ℕ). searched l (t .best) ≡ searched (positionsOf shift (row .last) sides) start)
+        subst (λ (l : List ℕ). along lows highs row l (t .best) ≡ along lows highs row (positionsOf shift (row .last) sides) start)
         (short-positions shift (row .last) (drop i sides) (omega (arith, length-drop i sides))) (z .whole)
 
 -- ---- the ends, then the sides
 
 module _ (lows highs : List ℕ) (row : Row) (best : Spot) where
-  abbrev along : List ℕ → Spot → Spot
-  along xs b = leadingInRow (row .sense) (stripArea lows highs (row .w)) xs (row .y) b
-
   pub ends-tried : (first last : Tried) → first ≡ triedAt lows highs row 0 best → last ≡ triedAt lows highs row (row .last) (first .best) →
-      last .best ≡ along (0 ∷ row .last ∷ []) best
+      last .best ≡ along lows highs row (0 ∷ row .last ∷ []) best
   unfolding passed
   ends-tried first last e f = ap (λ (t : Tried). t .best) (f ∙ ap (λ (t : Tried). triedAt lows highs row (row .last) (t .best)) e)
 
   -- the sides that the sense asks for
-  pub sides-tried : (s : Sense) (ends first r : Spot) → row .sense ≡ s → ends ≡ along (0 ∷ row .last ∷ []) best →
-      first ≡ along (positionsOf 0 (row .last) (nearOf s lows highs)) ends → r ≡ along (positionsOf (row .w) (row .last) (farOf s lows highs)) first →
-      r ≡ along (triedIn (row .sense) (row .w) (row .last) lows highs) best
+  pub sides-tried : (s : Sense) (ends first r : Spot) → row .sense ≡ s → ends ≡ along lows highs row (0 ∷ row .last ∷ []) best →
+      first ≡ along lows highs row (positionsOf 0 (row .last) (nearOf s lows highs)) ends → r ≡ along lows highs row (positionsOf (row .w) (row .last) (farOf s lows highs)) first →
+      r ≡ along lows highs row (triedIn (row .sense) (row .w) (row .last) lows highs) best
   sides-tried s ends first r k e f g =
-      g ∙ ap (along far) (f ∙ ap (along near) e)
-      ∙ sym (passed-append step near far (along (0 ∷ row .last ∷ []) best))
+      g ∙ ap (along lows highs row far) (f ∙ ap (along lows highs row near) e)
+      ∙ sym (passed-append step near far (along lows highs row (0 ∷ row .last ∷ []) best))
       ∙ sym (passed-append step (0 ∷ row .last ∷ []) (near ++ far) best)
-      ∙ ap (λ (s : Sense). along (triedIn s (row .w) (row .last) lows highs) best) (sym k)
+      ∙ ap (λ (s : Sense). along lows highs row (triedIn s (row .w) (row .last) lows highs) best) (sym k)
     where
       step : ℕ → Spot → Spot
       step x b = leading (row .sense) b (spotAt (stripArea lows highs (row .w)) x (row .y))

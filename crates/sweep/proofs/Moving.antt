@@ -183,13 +183,11 @@ ramps-small : (s : List ℕ) (x : ℕ) → Sides s → x ≤ widest → ramps s 
 ramps-small s x z h =
     omega (arith, sum-small (λ v h. h * (x - v)) largest s (z .small) (λ v w p q. small-product w (x - v) q (omega arith)), z .few)
 
+-- the ramps at both edges
+edge-ramps : (s : List ℕ) (left right : ℕ) (e : Edges) → e ≡ edgesAt s left right → (e .left .ramps ≡ ramps s left) × (e .right .ramps ≡ ramps s right)
+edge-ramps s left right e q = (ap (λ (e : Edges). e .left .ramps) q, ap (λ (e : Edges). e .right .ramps) q)
+
 module _ (lows highs : List ℕ) (left right : ℕ) (low high : Edges) (e : low ≡ edgesAt lows left right) (f : high ≡ edgesAt highs left right) where
-  low-ramps : (low .left .ramps ≡ ramps lows left) × (low .right .ramps ≡ ramps lows right)
-  low-ramps = (ap (λ (e : Edges). e .left .ramps) e, ap (λ (e : Edges). e .right .ramps) e)
-
-  high-ramps : (high .left .ramps ≡ ramps highs left) × (high .right .ramps ≡ ramps highs right)
-  high-ramps = (ap (λ (e : Edges). e .left .ramps) f, ap (λ (e : Edges). e .right .ramps) f)
-
   pub frame-moved : _≡_ {A = Frame}
       (record { left = left; right = right; area = low .right .ramps + high .left .ramps - (low .left .ramps + high .right .ramps); low = low; high = high })
       (frameAt lows highs left right)
@@ -201,10 +199,10 @@ module _ (lows highs : List ℕ) (left right : ℕ) (low high : Edges) (e : low 
 
   module _ (s : Strip lows highs) (u : Upright left right) where
     pub gained-fits : low .right .ramps + high .left .ramps ≤ 2 * (largest * (2 * mostRects))
-    gained-fits = omega (arith, low-ramps .1, high-ramps .0, ramps-small lows right (s .low) (u .small), ramps-small highs left (s .high) (omega (arith, u .order, u .small)))
+    gained-fits = omega (arith, edge-ramps lows left right low e .1, edge-ramps highs left right high f .0, ramps-small lows right (s .low) (u .small), ramps-small highs left (s .high) (omega (arith, u .order, u .small)))
 
     pub lost-below : low .left .ramps + high .right .ramps ≤ low .right .ramps + high .left .ramps
-    lost-below = omega (arith, low-ramps .0, low-ramps .1, high-ramps .0, high-ramps .1, s .grows left right (u .order))
+    lost-below = omega (arith, edge-ramps lows left right low e .0, edge-ramps lows left right low e .1, edge-ramps highs left right high f .0, edge-ramps highs left right high f .1, s .grows left right (u .order))
 
 -- the empty box at column 0 is one of every strip
 start-cursor : (s : List ℕ) → Sides s → noSides ≡ cursorAt s 0
