@@ -14,7 +14,7 @@ use Rattle.zoom.specs.declared.Level.{Level}
 
 -- the places of a table of flags, as `MOST_FLAGS` in src/
 abbrev pub flagsRoom : ℕ
-flagsRoom = 512 * 512
+flagsRoom = 505 * 505
 
 -- the starts on an axis: a layout has one position more than its side at most
 abbrev pub startsRoom : ℕ

@@ -15,10 +15,10 @@ use levels::level;
 use levels::next_after;
 use levels::starts_on;
 
-// The flags of a level, one to a start, fit up to 512 starts on an axis. The
-// largest legal job has 505 at level 3, the last whose flags are read; where
-// there are more, those without a flag are not passed over.
-const MOST_FLAGS: usize = 512 * 512;
+// The flags of a level, one to a start, fit up to 505 starts on an axis, which the
+// largest legal job has at level 3, the last whose flags are read. Where there
+// are more, those without a flag are not passed over.
+const MOST_FLAGS: usize = 505 * 505;
 
 // What is asked of a quick run: the layout's side N, the window's side W, the
 // accuracy E and the levels allowed, V.
