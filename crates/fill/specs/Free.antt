@@ -1,10 +1,11 @@
 -- What the code counts in place of eligible squares, and the boxes that it cuts. A buyer need not read it: proofs/Grown.antt shows that the
 -- squares outside the grown rectangles are the eligible ones.
 use Prim.Native.Nat.{ℕ, _+_, _-_, _≤_, min, max}
-use mathlib.Core.Bool.{Bool, not, _||_}
+use mathlib.Core.Path.{_≡_}
+use mathlib.Core.Bool.{Bool, not, _&&_, _||_}
 use mathlib.Core.List.{List, [], _∷_}
-use lib.Dec.{leb}
-use lib.ListN.{drop}
+use lib.Dec.{leb, ltb}
+use lib.ListN.{length, drop}
 use Rattle.geometry.specs.declared.Rect.{Rect}
 use Rattle.geometry.specs.Count.{one-if, boxSum}
 use Rattle.geometry.specs.Layout.{covered, rectsOf}
@@ -28,6 +29,10 @@ freeFrom gap table i b = freeArea (grownAll gap (rectsOf (drop i table))) b
 abbrev pub isEmpty : Rect → Bool
 isEmpty b = leb (b .x2) (b .x1) || leb (b .y2) (b .y1)
 
+-- a rectangle that is not near holds no square of the box, also if it is grown by the gap
+abbrev pub isNear : (gap : ℕ) → (r b : Rect) → Bool
+isNear gap r b = ltb (r .y1) (b .y2 + gap) && (ltb (b .y1) (r .y2 + gap) && (ltb (r .x1) (b .x2 + gap) && ltb (b .x1) (r .x2 + gap)))
+
 -- what two boxes have in common
 abbrev pub meeting : (r b : Rect) → Rect
 meeting r b = record { x1 = max (r .x1) (b .x1); y1 = max (r .y1) (b .y1); x2 = min (r .x2) (b .x2); y2 = min (r .y2) (b .y2) }
@@ -49,6 +54,12 @@ above b m = record { x1 = b .x1; y1 = m .y2; x2 = b .x2; y2 = b .y2 }
 abbrev pub aroundFrom : (gap : ℕ) (table : List ℕ) (i : ℕ) → (b m : Rect) → ℕ
 aroundFrom gap table i b m =
     freeFrom gap table i (below b m) + freeFrom gap table i (leftOf b m) + freeFrom gap table i (rightOf b m) + freeFrom gap table i (above b m)
+
+-- the rectangles from place i to before place k hold no square of the box
+pub record Passed (gap : ℕ) (table : List ℕ) (i : ℕ) (b : Rect) (k : ℕ) : Type 0 where
+  pub onward : i ≤ k
+  pub within : k ≤ length table
+  pub same : freeFrom gap table k b ≡ freeFrom gap table i b
 
 -- the box m lies in the box b
 pub record Within (m b : Rect) : Type 0 where

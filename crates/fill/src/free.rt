@@ -7,7 +7,7 @@ ghost use Prim.Native.Nat.{_+_, _-_, _*_, _≤_, _<_};
 ghost use mathlib.Core.Path.{_≡_};
 ghost use lib.ListN.{length};
 ghost use Rattle.geometry.specs.Overlaps.{rectAt};
-ghost use Rattle.fill.specs.Free.{grown, freeFrom, aroundFrom, isEmpty, meeting};
+ghost use Rattle.fill.specs.Free.{grown, freeFrom, aroundFrom, isEmpty, isNear, meeting, Passed};
 ghost use Rattle.fill.specs.Sizes.{SmallBox, Upright, Growable, Around};
 
 fn is_empty(b: Rect) -> bool
@@ -69,6 +69,42 @@ fn hit_at(rects: &[u64], gap: u64, at: usize, b: Rect) -> Rect
     meet(grown_at(rects, gap, at), b)
 }
 
+// Whether the rectangle at a place of the table may hold a square of b, if it is
+// grown by the gap. Most of a table lies off the rows of a tile, so these are
+// looked at first.
+fn is_near(rects: &[u64], gap: u64, at: usize, b: Rect) -> bool
+    requires { ⌜ at + 3 < length (now rects) ⌝ }
+    requires { ⌜ SmallBox (now rects) gap b ⌝ }
+    ensures { λ r. ⌜ r ≡ isNear gap (rectAt (now (rects .entry)) at) b ⌝ }
+{
+    if b.y2 + gap <= rects[at + 1] {
+        return false;
+    }
+    if rects[at + 3] + gap <= b.y1 {
+        return false;
+    }
+    if b.x2 + gap <= rects[at] {
+        return false;
+    }
+    b.x1 < rects[at + 2] + gap
+}
+
+// The first place from `at` on whose rectangle comes near b, or the table's end.
+fn next_near(rects: &[u64], gap: u64, at: usize, b: Rect) -> usize
+    requires { ⌜ at ≤ length (now rects) ⌝ }
+    requires { ⌜ SmallBox (now rects) gap b ⌝ }
+    ensures { λ r. ⌜ Passed gap (now (rects .entry)) at b r ⌝ }
+{
+    let mut i = at;
+    while i + 3 < rects.len() {
+        if is_near(rects, gap, i, b) {
+            return i;
+        }
+        i += 4;
+    }
+    i
+}
+
 // The squares of b that no rectangle from a place on holds, grown by the gap.
 pub(crate) fn free_from(rects: &[u64], gap: u64, at: usize, b: Rect) -> u64
     requires { ⌜ at ≤ length (now rects) ⌝ }
@@ -78,14 +114,15 @@ pub(crate) fn free_from(rects: &[u64], gap: u64, at: usize, b: Rect) -> u64
     if is_empty(b) {
         return 0;
     }
-    if rects.len() <= at + 3 {
+    let next = next_near(rects, gap, at, b);
+    if rects.len() <= next + 3 {
         return size(b);
     }
-    let m = hit_at(rects, gap, at, b);
+    let m = hit_at(rects, gap, next, b);
     if is_empty(m) {
-        return free_from(rects, gap, at + 4, b);
+        return free_from(rects, gap, next + 4, b);
     }
-    free_around(rects, gap, at + 4, b, m)
+    free_around(rects, gap, next + 4, b, m)
 }
 
 // The same of the four boxes around m, a box in b.

@@ -1,7 +1,7 @@
 -- The proof of the cycle of calls {free_around, free_from}: each call of `free_from` is on a later place of the table, so the measure is what
 -- is left of the table, with `free_around` between two places. Assumes nothing.
 use Prim.Native.Nat.{ℕ, _+_, _-_, _*_, _<_, _≤_}
-use mathlib.Core.Path.{ap₂}
+use mathlib.Core.Path.{ap₂, _∙_}
 use native.Mathlib.Nat.{le-of-lt}
 use native.Mathlib.Omega.{arith}
 use borrow.Author.Needs.{needs}
@@ -18,6 +18,7 @@ use Rattle.fill.proofs.free.free_from.Kinds as free-kinds
 use Rattle.fill.proofs.free.+free_around+free_from.Lts-free_from as free-lts
 use Rattle.fill.proofs.free.hit_at.Reads as hit-at-reads
 use Rattle.fill.proofs.free.is_empty.Reads as is-empty-reads
+use Rattle.fill.proofs.free.next_near.Reads as next-near-reads
 use Rattle.fill.proofs.free.size.Reads as size-reads
 use Rattle.fill.proofs.free.+free_around+free_from.{statement}
 use Rattle.fill.proofs.free.+free_around+free_from.Tie.{close}
@@ -66,30 +67,37 @@ pub +free-around+free-from-spec : {M : Type 1} → statement M
     ap₂ _+_ (ap₂ _+_ (ap₂ _+_ (c .before .before .before .free-from .ensures) (c .before .before .free-from2 .ensures)) (c .before .free-from3 .ensures))
     (c .free-from4 .ensures)))
     (λ t. free-lts.spec
-    (is-empty-reads.Asked, is-empty-reads.Learnt, size-reads.Asked, size-reads.Learnt, hit-at-reads.Asked, hit-at-reads.Learnt, free-below t, free.Post, around-below t, around.Post)
+    (is-empty-reads.Asked, is-empty-reads.Learnt, next-near-reads.Asked, next-near-reads.Learnt, size-reads.Asked, size-reads.Learnt, hit-at-reads.Asked, hit-at-reads.Learnt, free-below t, free.Post, around-below t, around.Post)
     (free-at t) free.Post
     (λ c κs. search needs)
     (λ c.
     let a = c .before .before .before .args in
     empty-free (a .gap) (a .rects .now) (a .at) (a .b) _ (c .before .is-empty .ensures) (c .if1 .taken))
-    (λ c. omega arith)
+    (λ c κs. c .before .before .before .pre .1)
+    (λ c. omega (arith, c .next-near .ensures .within))
     (λ c κs.
-    let small = c .before .before .before .before .pre .1 .1 in
-    let full = full-box _ _ (c .before .before .is-empty .ensures) (c .before .if1 .left) in
+    let small = c .before .before .before .before .before .pre .1 .1 in
+    let full = full-box _ _ (c .before .before .before .is-empty .ensures) (c .before .before .if1 .left) in
     record { across = le-of-lt (full .0); up = le-of-lt (full .1); right = small .right; high = small .high })
-    (λ c. end-free _ _ _ _ _ (c .before .if2 .taken) (c .size .ensures))
-    (λ c κs. (c .if2 .left, c .before .before .before .before .pre .1 .1))
+    (λ c. end-free _ _ _ _ _ (c .before .if2 .taken) (c .size .ensures) ∙ c .before .before .next-near .ensures .same)
+    (λ c κs. (c .if2 .left, c .before .before .before .before .before .pre .1 .1))
     (λ c κs. search needs)
     (λ c. omega arith)
-    (λ c κs. let s = c .before .before .before .before .before .before .before in (omega arith, (omega arith, s .pre .1 .1)))
+    (λ c κs.
+    let s = c .before .before .before .before .before .before .before .before in
+    let p = c .before .before .before .before .next-near .ensures in
+    (omega (arith, p .onward), (omega arith, s .pre .1 .1)))
     (λ c.
     skip-free _ _ _ _ _ _ _ (c .before .before .before .before .if2 .left) (c .before .before .before .hit-at .ensures) (c .before .before .is-empty2 .ensures)
-    (c .before .if3 .taken) (c .free-from .ensures))
+    (c .before .if3 .taken) (c .free-from .ensures)
+    ∙ c .before .before .before .before .before .next-near .ensures .same)
     (λ c. omega arith)
     (λ c κs.
-    let s = c .before .before .before .before .before .before .before in
+    let s = c .before .before .before .before .before .before .before .before in
+    let p = c .before .before .before .before .next-near .ensures in
     let inside = meeting-within _ _ _ _ (c .before .before .hit-at .ensures) (c .before .is-empty2 .ensures) (c .if3 .left) in
-    (omega arith, record { place = omega arith; small = s .pre .1 .1; within = inside }))
+    (omega (arith, p .onward), record { place = omega arith; small = s .pre .1 .1; within = inside }))
     (λ c.
     cut-free _ _ _ _ _ _ _ (c .before .before .before .before .if2 .left) (c .before .before .before .hit-at .ensures) (c .before .before .is-empty2 .ensures)
-    (c .before .if3 .left) (c .free-around .ensures)))
+    (c .before .if3 .left) (c .free-around .ensures)
+    ∙ c .before .before .before .before .before .next-near .ensures .same))
