@@ -14,7 +14,7 @@ use Rattle.geometry.specs.Extreme.{spotAt}
 use Rattle.sweep.specs.declared.Frame.{Frame}
 use Rattle.sweep.specs.Strips.{Rising, Sides, Strip, StripOf}
 use Rattle.sweep.specs.Cursors.{frameAt, startFrame, Behind, Upright}
-use Rattle.sweep.proofs.Moving.{two-at, behind-start, behind-later, behind-moved}
+use Rattle.sweep.proofs.Moving.{two-at, true-area, behind-start, behind-later, behind-moved}
 use Rattle.extremes.specs.declared.searching.Row.{Row}
 use Rattle.extremes.specs.declared.searching.Tried.{Tried}
 use Rattle.extremes.specs.Exact.{windowArea}
@@ -48,7 +48,9 @@ module _ (lows highs : List ℕ) (row : Row) (v shift : ℕ) (before : Tried) wh
 -- a window right of one that was tried
 pub tried-behind : (lows highs : List ℕ) (row : Row) (x p : ℕ) (b : Spot) (t : Tried) → t ≡ triedAt lows highs row x b → x ≤ p →
     Behind lows highs (t .frame) p (p + row .w)
-tried-behind lows highs row x p b t e h = behind-moved lows highs (t .frame) x (x + row .w) p (p + row .w) (ap (λ (t : Tried). t .frame) e) h (omega arith)
+tried-behind lows highs row x p b t e h =
+    let moved = ap (λ (t : Tried). t .frame) e in
+    behind-moved lows highs (t .frame) x (x + row .w) p (p + row .w) moved (true-area lows highs (t .frame) x (x + row .w) moved (omega arith)) h (omega arith)
 
 -- ---- the sides of a list, from left to right
 
@@ -114,7 +116,7 @@ module _ (lows highs : List ℕ) (row : Row) (sides : List ℕ) (shift : ℕ) (s
                     (positions-cons shift (row .last) v (getD sides (suc i) 0) rest true k) left;
                 reached = v;
                 rises = here .1;
-                behind = record { is = refl; left-earlier = omega arith; right-earlier = omega arith };
+                behind = tried-behind lows highs row (v - shift) (v - shift) (t .best) (triedAt lows highs row (v - shift) (t .best)) refl (omega arith);
                 within = inside;
               }
           go false k =

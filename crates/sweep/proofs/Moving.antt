@@ -18,7 +18,7 @@ use Rattle.sweep.specs.declared.Cursor.{Cursor}
 use Rattle.sweep.specs.declared.Edges.{Edges}
 use Rattle.sweep.specs.declared.Frame.{Frame}
 use Rattle.sweep.specs.Strips.{sideSum, ramps, stripSum, Rising, Sides, Strip}
-use Rattle.sweep.specs.Cursors.{leftSum, cursorAt, isLeft, StandsBefore, edgesAt, EdgesBefore, frameAt, noSides, startFrame, Behind, Upright}
+use Rattle.sweep.specs.Cursors.{leftSum, cursorAt, isLeft, StandsBefore, edgesAt, EdgesBefore, frameAt, noSides, startFrame, TrueArea, Behind, Upright}
 use Rattle.sweep.proofs.Sums.{ramps-formed, rising-weaken, none-left, left-of, passedAt, left-split, rising-passed, passed-within, sum-small, left-small}
 
 -- ---- whether a side is left of a column
@@ -233,18 +233,28 @@ start-is lows highs s =
     no-area : 0 ≡ stripSum lows highs 0 0
     no-area = omega arith
 
--- ---- where a box may move
+-- ---- the true area, and where a box may move
+
+pub true-area : (lows highs : List ℕ) (f : Frame) (left right : ℕ) → f ≡ frameAt lows highs left right → left ≤ right → TrueArea lows highs f
+true-area lows highs f left right e h =
+    subst (TrueArea lows highs) (sym e) (record { counted = λ rects y1 y2 s. s .areas left right h })
 
 -- it is not right of any columns at first, and of none further right; where it was moved to, it is not right of columns from there on
 module _ (lows highs : List ℕ) (f : Frame) where
+  pub behind-moved : (left right l r : ℕ) → f ≡ frameAt lows highs left right → TrueArea lows highs f → left ≤ l → right ≤ r → Behind lows highs f l r
+  behind-moved left right l r e t h k =
+      record {
+        is = subst (λ (f : Frame). f ≡ frameAt lows highs (f .left) (f .right)) (sym e) refl;
+        area-true = t;
+        left-earlier = subst (λ (f : Frame). f .left ≤ l) (sym e) h;
+        right-earlier = subst (λ (f : Frame). f .right ≤ r) (sym e) k;
+      }
+
   pub behind-start : (left right : ℕ) → Strip lows highs → f ≡ startFrame → Behind lows highs f left right
   behind-start left right s e =
-      subst (λ (f : Frame). Behind lows highs f left right) (sym e) (record { is = start-is lows highs s; left-earlier = omega arith; right-earlier = omega arith })
+      let start = e ∙ start-is lows highs s in
+      behind-moved 0 0 left right start (true-area lows highs f 0 0 start (omega arith)) (omega arith) (omega arith)
 
   pub behind-later : (left right l r : ℕ) → Behind lows highs f left right → left ≤ l → right ≤ r → Behind lows highs f l r
   behind-later left right l r b h k =
-      record { is = b .is; left-earlier = omega (arith, b .left-earlier); right-earlier = omega (arith, b .right-earlier) }
-
-  pub behind-moved : (left right l r : ℕ) → f ≡ frameAt lows highs left right → left ≤ l → right ≤ r → Behind lows highs f l r
-  behind-moved left right l r e h k =
-      subst (λ (f : Frame). Behind lows highs f l r) (sym e) (record { is = refl; left-earlier = h; right-earlier = k })
+      record { is = b .is; area-true = b .area-true; left-earlier = omega (arith, b .left-earlier); right-earlier = omega (arith, b .right-earlier) }

@@ -7,10 +7,11 @@ use lib.Dec.{ltb}
 use lib.ListN.{length, getD}
 use Rattle.geometry.specs.Sizes.{widest}
 use Rattle.geometry.specs.Count.{one-if}
+use Rattle.geometry.specs.Layout.{coveredArea, rectsOf}
 use Rattle.sweep.specs.declared.Cursor.{Cursor}
 use Rattle.sweep.specs.declared.Edges.{Edges}
 use Rattle.sweep.specs.declared.Frame.{Frame}
-use Rattle.sweep.specs.Strips.{sideSum, ramps, stripSum}
+use Rattle.sweep.specs.Strips.{sideSum, ramps, stripSum, StripOf}
 
 -- the sum of g over the sides left of column x
 abbrev pub leftSum : (ℕ → ℕ → ℕ) → List ℕ → ℕ → ℕ
@@ -56,9 +57,15 @@ noEdges = record { left = noSides; right = noSides }
 abbrev pub startFrame : Frame
 startFrame = record { left = 0; right = 0; area = 0; low = noEdges; high = noEdges }
 
--- a box of a strip is not right of the columns `left` and `right`
+-- the area of a box of a strip is the true one: the covered squares between its columns, in every layout and between every two rows whose strip it is
+pub record TrueArea (lows highs : List ℕ) (f : Frame) : Type 0 where
+  pub counted : (rects : List ℕ) (y1 y2 : ℕ) → StripOf rects y1 y2 lows highs →
+      f .area ≡ coveredArea (rectsOf rects) (record { x1 = f .left; y1 = y1; x2 = f .right; y2 = y2 })
+
+-- a box of a strip has the true sums and the true area, and is not right of the columns `left` and `right`
 pub record Behind (lows highs : List ℕ) (f : Frame) (left right : ℕ) : Type 0 where
   pub is : f ≡ frameAt lows highs (f .left) (f .right)
+  pub area-true : TrueArea lows highs f
   pub left-earlier : f .left ≤ left
   pub right-earlier : f .right ≤ right
 

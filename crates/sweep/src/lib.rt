@@ -16,7 +16,7 @@ ghost use Rattle.buffers.specs.Written.{Front};
 ghost use Rattle.sweep.specs.declared.Side.the-variants.{Low, High};
 ghost use Rattle.sweep.specs.Order.{sideOrder};
 ghost use Rattle.sweep.specs.Strips.{stripRoom, stripSides, Strip, Swept, StripOf};
-ghost use Rattle.sweep.specs.Cursors.{startFrame, frameAt, Behind, Upright};
+ghost use Rattle.sweep.specs.Cursors.{startFrame, frameAt, TrueArea, Behind, Upright};
 use geometry::MOST_RECTS;
 
 // Room for the places of the low sides and those of the high sides, and for the
@@ -126,6 +126,7 @@ pub fn move_to(lows: &[u64], highs: &[u64], from: Frame, left: u64, right: u64) 
     requires { ⌜ Behind (now lows) (now highs) from left right ⌝ }
     requires { ⌜ Upright left right ⌝ }
     ensures { λ r. ⌜ r ≡ frameAt (now (lows .entry)) (now (highs .entry)) left right ⌝ }
+    ensures { λ r. ⌜ TrueArea (now (lows .entry)) (now (highs .entry)) r ⌝ }
 {
     let low = cursors::move_edges(lows, from.low, left, right);
     let high = cursors::move_edges(highs, from.high, left, right);

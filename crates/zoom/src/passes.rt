@@ -5,7 +5,7 @@ ghost use Prim.Native.Nat.{_+_, _*_, _≤_};
 ghost use mathlib.Core.Path.{_≡_};
 ghost use lib.ListN.{length, set};
 ghost use Rattle.sweep.specs.Strips.{stripRoom, Strip};
-ghost use Rattle.sweep.specs.Cursors.{frameAt, Behind};
+ghost use Rattle.sweep.specs.Cursors.{frameAt, TrueArea, Behind};
 ghost use Rattle.zoom.specs.Sizes.{levelRoom, keptRoom};
 ghost use Rattle.zoom.specs.Spans.{spanFrom, spanTo, alongStrip, OnRow};
 ghost use Rattle.zoom.specs.Passing.{flagOf, Passable, RowPassable};
@@ -98,6 +98,7 @@ fn frame_at(lows: &[u64], highs: &[u64], g: Grid, u: u64, i: u64, from: Frame) -
     requires { ⌜ OnRow g u i ⌝ }
     requires { ⌜ Behind (now lows) (now highs) from (spanFrom (g .sense) u (i * g .t)) (spanTo (g .sense) (g .n) (g .w) u (i * g .t)) ⌝ }
     ensures { λ r. ⌜ r ≡ frameAt (now (lows .entry)) (now (highs .entry)) (spanFrom (g .sense) u (i * g .t)) (spanTo (g .sense) (g .n) (g .w) u (i * g .t)) ⌝ }
+    ensures { λ r. ⌜ TrueArea (now (lows .entry)) (now (highs .entry)) r ⌝ }
 {
     let sense = g.sense;
     let x = i * g.t;

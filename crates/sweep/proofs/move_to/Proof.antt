@@ -1,7 +1,7 @@
 -- `sweep::move_to` meets its contract. Assumes nothing.
 use native.Mathlib.Omega.{arith}
 use borrow.Author.Needs.{needs}
-use Rattle.sweep.proofs.Moving.{low-before, high-before, gained-fits, lost-below, frame-moved}
+use Rattle.sweep.proofs.Moving.{low-before, high-before, gained-fits, lost-below, frame-moved, true-area}
 use Rattle.sweep.proofs.move_to.Statement.{statement}
 use Rattle.sweep.proofs.move_to.Tie as tie
 
@@ -36,9 +36,12 @@ difference c =
 
 returns : tie.Need-returns
 returns c =
-    let a = c .before .before .before .before .before .before .before .before .args in
+    let s = c .before .before .before .before .before .before .before .before in
+    let a = s .args in
+    let moved =
     frame-moved (a .lows .now) (a .highs .now) (a .left) (a .right) _ _ (c .before .before .before .before .before .move-edges .ensures)
-    (c .before .before .before .before .move-edges2 .ensures)
+    (c .before .before .before .before .move-edges2 .ensures) in
+    (moved, true-area (a .lows .now) (a .highs .now) _ (a .left) (a .right) moved (s .pre .1 .1 .order))
 
 pub move-to-spec : {M : Type 1} → statement M
 move-to-spec = tie.close (tie.spec (λ c κs. search (low-before, needs)) (λ c κs. search (high-before, needs)) gained lost difference returns)

@@ -71,7 +71,7 @@ add-out : tie.Need-add-out Inv-loop μ-loop
 add-out c =
     let s = c .before .before .before .before .before .before .before .before .before .before .before .before in
     let at = c .before .before .before .before .before .loop in
-    omega (arith, load-fits _ _ _ _ _ (at .i) (s .pre .1 .0) (c .before .before .before .if1 .taken) _ (c .before .before .move-to .ensures))
+    omega (arith, load-fits _ _ _ _ _ (at .i) (s .pre .1 .0) (c .before .before .before .if1 .taken) _ (c .before .before .move-to .ensures .0))
 
 mul-out-2 : tie.Need-mul-out-2 Inv-loop μ-loop
 mul-out-2 c =
@@ -92,10 +92,10 @@ loop-again c =
     let more = c .before .before .before .if1 .taken in
     let moved = c .before .before .move-to .ensures in (
       omega (arith, more),
-      behind-moved _ _ _ _ _ _ _ moved (tile-end (s .args .plan .side) (at .i)) (omega arith),
+      behind-moved _ _ _ _ _ _ _ (moved .0) (moved .1) (tile-end (s .args .plan .side) (at .i)) (omega arith),
       filled-to _ _ _ _ _ _
           (filled-next _ _ _ _ _ _ (at .inv .2) (omega arith) (omega (arith, place-inside _ _ _ _ _ (at .i) (s .pre .1 .0) more, at .inv .2 .size, s .pre .1 .1))
-          (load-formed _ _ _ _ _ (at .i) (s .pre .1 .0) more _ moved))
+          (load-formed _ _ _ _ _ (at .i) (s .pre .1 .0) more _ (moved .0)))
           (add-assoc (s .args .j * s .args .plan .across) (at .i) 1),
     )
 

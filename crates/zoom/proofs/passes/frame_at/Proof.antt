@@ -28,7 +28,10 @@ move-to-requires c κs =
 returns : tie.Need-returns
 returns c =
     let a = c .before .before .before .before .before .before .args in
-    frame-moved (a .lows .now) (a .highs .now) (a .g) (a .u) (a .i) _ _ _ (c .before .before .span-from .ensures) (c .before .span-to .ensures) (c .move-to .ensures)
+    let moved = c .move-to .ensures in (
+      frame-moved (a .lows .now) (a .highs .now) (a .g) (a .u) (a .i) _ _ _ (c .before .before .span-from .ensures) (c .before .span-to .ensures) (moved .0),
+      moved .1,
+    )
 
 pub frame-at-spec : {M : Type 1} → statement M
 frame-at-spec = tie.close (tie.spec room span-from-requires span-to-requires move-to-requires returns)

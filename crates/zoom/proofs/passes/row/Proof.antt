@@ -88,9 +88,9 @@ loop-again-2 c =
     let look = c .before .before .look in
     let x = at .i * a .g .t in (
       omega (arith, c .before .before .before .before .before .before .before .before .if1 .taken),
-      behind-moved _ _ _ _ _ _ _ frame (from-next (a .g) _ (at .i)) (to-next (a .g) _ (at .i)),
+      behind-moved _ _ _ _ _ _ _ (frame .0) (frame .1) (from-next (a .g) _ (at .i)) (to-next (a .g) _ (at .i)),
       pass-looks (a .pass) _ _ _ _ _ _ _ _ _ _ (at .inv .2) _ _ _
-          (ap (λ (f : Frame). f .area) frame ∙ ap (λ (u : ℕ). alongStrip (a .lows .now) (a .highs .now) (a .g) u x (a .j * a .g .t)) (c .before .before .before .before .before .before .before .before .before .before .before .before .before .before .before .step-of .ensures))
+          (ap (λ (f : Frame). f .area) (frame .0) ∙ ap (λ (u : ℕ). alongStrip (a .lows .now) (a .highs .now) (a .g) u x (a .j * a .g .t)) (c .before .before .before .before .before .before .before .before .before .before .before .before .before .before .before .step-of .ensures))
           (look .ensures .0) (look .ensures .1),
     )
 
