@@ -1,6 +1,6 @@
 -- The steps of the count of free squares: a box without squares, the end of the table, a rectangle that misses the box, and one that cuts it.
 use Prim.Native.Nat.{ℕ, _+_, _-_, _*_, _≤_, _<_}
-use mathlib.Core.Path.{_≡_, refl, sym, ap, _∙_, subst}
+use mathlib.Core.Path.{_≡_, sym, ap, _∙_, subst}
 use mathlib.Core.Bool.{Bool, true, false}
 use mathlib.Core.List.{List, _∷_}
 use mathlib.Core.Logic.{_⊎_, inl, inr}
@@ -8,14 +8,14 @@ use native.Mathlib.Nat.{mul-zero, zero-mul, mul-le-mul}
 use native.Mathlib.Omega.{arith}
 use lib.Dec.{leb}
 use lib.ListN.{length, drop}
-use borrow.Author.Tests.{leb-true, leb-false, lt-ltb}
-use Rattle.laws.proofs.Tests.{le-or-lt, true-false, either, neither}
+use borrow.Author.Tests.{leb-true, leb-false}
+use Rattle.laws.proofs.Tests.{either, neither}
 use Rattle.geometry.specs.declared.Rect.{Rect}
 use Rattle.geometry.specs.Sizes.{widest, largest}
 use Rattle.geometry.specs.Layout.{rectsOf}
 use Rattle.geometry.specs.Overlaps.{rectAt}
 use Rattle.geometry.proofs.Tables.{rects-next, rects-end}
-use Rattle.fill.specs.Free.{grown, grownAll, freeArea, freeFrom, isEmpty, meeting, below, leftOf, rightOf, above, aroundFrom, isNear, Passed, Within}
+use Rattle.fill.specs.Free.{grown, grownAll, freeArea, freeFrom, isEmpty, meeting, below, leftOf, rightOf, above, aroundFrom, Within}
 use Rattle.fill.specs.Sizes.{SmallBox}
 use Rattle.fill.proofs.Grown.{free-small, free-none, free-apart, free-around}
 
@@ -85,33 +85,6 @@ meeting-within r b m v e f k =
     let y = full .1 in
     subst (λ (q : Rect). Within q b) (sym e)
     (record { left = omega arith; across = omega arith; right = omega arith; low = omega arith; up = omega arith; high = omega arith })
-
--- ---- rectangles that are not near a box
-
-missed : (g : ℕ) (r b : Rect) → isNear g r b ≡ false → (meeting (grown g r) b .x2 ≤ meeting (grown g r) b .x1) ⊎ (meeting (grown g r) b .y2 ≤ meeting (grown g r) b .y1)
-missed g r b e = go (le-or-lt (b .y2 + g) (r .y1)) (le-or-lt (r .y2 + g) (b .y1)) (le-or-lt (b .x2 + g) (r .x1)) (le-or-lt (r .x2 + g) (b .x1))
-  where
-    go : (b .y2 + g ≤ r .y1) ⊎ (r .y1 < b .y2 + g) → (r .y2 + g ≤ b .y1) ⊎ (b .y1 < r .y2 + g) → (b .x2 + g ≤ r .x1) ⊎ (r .x1 < b .x2 + g) →
-        (r .x2 + g ≤ b .x1) ⊎ (b .x1 < r .x2 + g) →
-        (meeting (grown g r) b .x2 ≤ meeting (grown g r) b .x1) ⊎ (meeting (grown g r) b .y2 ≤ meeting (grown g r) b .y1)
-    go (inl h) j k l = inr (omega arith)
-    go (inr h) (inl j) k l = inr (omega arith)
-    go (inr h) (inr j) (inl k) l = inl (omega arith)
-    go (inr h) (inr j) (inr k) (inl l) = inl (omega arith)
-    go (inr h) (inr j) (inr k) (inr l) =
-        absurd (true-false (isNear g r b) (rw (lt-ltb (r .y1) (b .y2 + g) h, lt-ltb (b .y1) (r .y2 + g) j, lt-ltb (r .x1) (b .x2 + g) k, lt-ltb (b .x1) (r .x2 + g) l)) e)
-
-pub pass-near : (g : ℕ) (t : List ℕ) (at i : ℕ) (b : Rect) (v : Bool) → i + 3 < length t → Passed g t at b i → v ≡ isNear g (rectAt t i) b → v ≡ false →
-    Passed g t at b (i + 4)
-pass-near g t at i b v h p e k =
-    record {
-      onward = omega (arith, p .onward);
-      within = omega arith;
-      same =
-          sym (free-apart (grown g (rectAt t i)) (grownAll g (rectsOf (drop (i + 4) t))) b (missed g (rectAt t i) b (sym e ∙ k)))
-          ∙ sym (next-free g t i b h)
-          ∙ p .same;
-    }
 
 -- ---- 64 bits
 

@@ -121,24 +121,24 @@ free-hole r rs b h =
     nothing = omega (arith, box-const b 0)
 
 module _ (r : Rect) (x y : ℕ) where
-  not-left : x < r .x1 → holds r x y ≡ false
+  pub not-left : x < r .x1 → holds r x y ≡ false
   not-left h = rw (lt-leb (r .x1) x h)
 
-  not-right : r .x2 ≤ x → holds r x y ≡ false
+  pub not-right : r .x2 ≤ x → holds r x y ≡ false
   not-right h = rw (le-ltb x (r .x2) h) (rest (leb (r .x1) x))
     where
       rest : (t : Bool) → ((t && false) && between (r .y1) (r .y2) y) ≡ false
       rest true = refl
       rest false = refl
 
-  not-below : y < r .y1 → holds r x y ≡ false
+  pub not-below : y < r .y1 → holds r x y ≡ false
   not-below h = rw (lt-leb (r .y1) y h) (rest (between (r .x1) (r .x2) x))
     where
       rest : (t : Bool) → (t && false) ≡ false
       rest true = refl
       rest false = refl
 
-  not-above : r .y2 ≤ y → holds r x y ≡ false
+  pub not-above : r .y2 ≤ y → holds r x y ≡ false
   not-above h = rw (le-ltb y (r .y2) h) (rest (between (r .x1) (r .x2) x) (leb (r .y1) y))
     where
       rest : (s t : Bool) → (s && (t && false)) ≡ false

@@ -1,5 +1,6 @@
 pub mod Grown
 pub mod Cutting
+pub mod Near
 pub mod Tiles
 pub mod Starts
 pub mod Promise

@@ -1,14 +1,16 @@
 -- What the code counts in place of eligible squares, and the boxes that it cuts. A buyer need not read it: proofs/Grown.antt shows that the
 -- squares outside the grown rectangles are the eligible ones.
-use Prim.Native.Nat.{ℕ, _+_, _-_, _≤_, min, max}
+use Prim.Native.Nat.{ℕ, _+_, _-_, _*_, _≤_, _<_, min, max}
 use mathlib.Core.Path.{_≡_}
-use mathlib.Core.Bool.{Bool, not, _&&_, _||_}
+use mathlib.Core.Bool.{Bool, false, not, _&&_, _||_}
 use mathlib.Core.List.{List, [], _∷_}
 use lib.Dec.{leb, ltb}
-use lib.ListN.{length, drop}
+use lib.ListN.{length, take, drop}
 use Rattle.geometry.specs.declared.Rect.{Rect}
 use Rattle.geometry.specs.Count.{one-if, boxSum}
 use Rattle.geometry.specs.Layout.{covered, rectsOf}
+use Rattle.fill.specs.declared.Part.{Part}
+use Rattle.fill.specs.Eligible.{fillableArea}
 
 -- a rectangle grown by the gap on all sides, cut off at 0
 abbrev pub grown : ℕ → Rect → Rect
@@ -55,12 +57,6 @@ abbrev pub aroundFrom : (gap : ℕ) (table : List ℕ) (i : ℕ) → (b m : Rect
 aroundFrom gap table i b m =
     freeFrom gap table i (below b m) + freeFrom gap table i (leftOf b m) + freeFrom gap table i (rightOf b m) + freeFrom gap table i (above b m)
 
--- the rectangles from place i to before place k hold no square of the box
-pub record Passed (gap : ℕ) (table : List ℕ) (i : ℕ) (b : Rect) (k : ℕ) : Type 0 where
-  pub onward : i ≤ k
-  pub within : k ≤ length table
-  pub same : freeFrom gap table k b ≡ freeFrom gap table i b
-
 -- the box m lies in the box b
 pub record Within (m b : Rect) : Type 0 where
   pub left : b .x1 ≤ m .x1
@@ -69,3 +65,31 @@ pub record Within (m b : Rect) : Type 0 where
   pub low : b .y1 ≤ m .y1
   pub up : m .y1 ≤ m .y2
   pub high : m .y2 ≤ b .y2
+
+-- whether a rectangle from place i of a table on holds a square, grown by the gap
+abbrev pub heldFrom : (gap : ℕ) (table : List ℕ) (i : ℕ) → (x y : ℕ) → Bool
+heldFrom gap table i x y = covered (grownAll gap (rectsOf (drop i table))) x y
+
+-- the rectangles from place i to before place k hold no square of the box
+pub record Skipped (gap : ℕ) (table : List ℕ) (i : ℕ) (b : Rect) (k : ℕ) : Type 0 where
+  pub onward : i ≤ k
+  pub within : k ≤ length table
+  pub same : (x y : ℕ) → b .x1 ≤ x → x < b .x2 → b .y1 ≤ y → y < b .y2 → heldFrom gap table k x y ≡ heldFrom gap table i x y
+
+-- place k is some whole rectangles behind place i, and those from k on hold no square of the box
+pub record LastNear (gap : ℕ) (table : List ℕ) (i : ℕ) (b : Rect) (k : ℕ) : Type 0 where
+  pub rects : ℕ
+  pub whole : k ≡ i + 4 * rects
+  pub within : k ≤ length table
+  pub rest : (x y : ℕ) → b .x1 ≤ x → x < b .x2 → b .y1 ≤ y → y < b .y2 → heldFrom gap table k x y ≡ false
+
+-- the numbers of a part of a table
+abbrev pub partOf : Part → List ℕ → List ℕ
+partOf p table = take (p .to - p .from) (drop (p .from) table)
+
+-- a part of a table has all that decides on the squares of a box: in every box inside, as many are fillable by the part as by the table
+pub record Serves (gap : ℕ) (table : List ℕ) (b : Rect) (p : Part) : Type 0 where
+  pub order : p .from ≤ p .to
+  pub within : p .to ≤ length table
+  pub same : (c : Rect) → b .x1 ≤ c .x1 → b .y1 ≤ c .y1 → c .x2 ≤ b .x2 → c .y2 ≤ b .y2 →
+      fillableArea gap (rectsOf (partOf p table)) c ≡ fillableArea gap (rectsOf table) c

@@ -7,7 +7,7 @@ ghost use Prim.Native.Nat.{_+_, _-_, _*_, _≤_, _<_};
 ghost use mathlib.Core.Path.{_≡_};
 ghost use lib.ListN.{length};
 ghost use Rattle.geometry.specs.Overlaps.{rectAt};
-ghost use Rattle.fill.specs.Free.{grown, freeFrom, aroundFrom, isEmpty, isNear, meeting, Passed};
+ghost use Rattle.fill.specs.Free.{grown, freeFrom, aroundFrom, isEmpty, isNear, meeting, Skipped, LastNear};
 ghost use Rattle.fill.specs.Sizes.{SmallBox, Upright, Growable, Around};
 
 fn is_empty(b: Rect) -> bool
@@ -90,10 +90,10 @@ fn is_near(rects: &[u64], gap: u64, at: usize, b: Rect) -> bool
 }
 
 // The first place from `at` on whose rectangle comes near b, or the table's end.
-fn next_near(rects: &[u64], gap: u64, at: usize, b: Rect) -> usize
+pub(crate) fn next_near(rects: &[u64], gap: u64, at: usize, b: Rect) -> usize
     requires { ⌜ at ≤ length (now rects) ⌝ }
     requires { ⌜ SmallBox (now rects) gap b ⌝ }
-    ensures { λ r. ⌜ Passed gap (now (rects .entry)) at b r ⌝ }
+    ensures { λ r. ⌜ Skipped gap (now (rects .entry)) at b r ⌝ }
 {
     let mut i = at;
     while i + 3 < rects.len() {
@@ -103,6 +103,25 @@ fn next_near(rects: &[u64], gap: u64, at: usize, b: Rect) -> usize
         i += 4;
     }
     i
+}
+
+// The place behind the last rectangle from `at` on that comes near b, or `at`.
+pub(crate) fn last_near(rects: &[u64], gap: u64, at: usize, b: Rect) -> usize
+    requires { ⌜ at ≤ length (now rects) ⌝ }
+    requires { ⌜ SmallBox (now rects) gap b ⌝ }
+    ensures { λ r. ⌜ LastNear gap (now (rects .entry)) at b r ⌝ }
+{
+    let mut end = at;
+    let mut i = at;
+    while i + 3 < rects.len() {
+        if is_near(rects, gap, i, b) {
+            i += 4;
+            end = i;
+        } else {
+            i += 4;
+        }
+    }
+    end
 }
 
 // The squares of b that no rectangle from a place on holds, grown by the gap.

@@ -7,6 +7,7 @@ ghost use Rattle.geometry.specs.Sizes.{widest};
 ghost use Rattle.geometry.specs.Layout.{rectsOf};
 ghost use Rattle.sweep.specs.Strips.{Swept};
 ghost use Rattle.fill.specs.Eligible.{tile, fillableArea};
+ghost use Rattle.fill.specs.Free.{Serves};
 ghost use Rattle.fill.specs.Judge.{verdictOf};
 ghost use Rattle.fill.specs.Sizes.{SmallBox, Planned};
 
@@ -51,6 +52,12 @@ pub struct Plan {
     pub upper: u64,
 }
 
+// A part of a table of rectangles, from one place to before another.
+pub struct Part {
+    pub from: usize,
+    pub to: usize,
+}
+
 // The box of a tile.
 pub fn tile_box(side: u64, i: u64, j: u64) -> Rect
     requires { ⌜ (suc i * side ≤ widest) × (suc j * side ≤ widest) ⌝ }
@@ -59,13 +66,28 @@ pub fn tile_box(side: u64, i: u64, j: u64) -> Rect
     window_box(side, i * side, j * side)
 }
 
-// The fillable area of a box, such as a tile. The table is lent without padding:
-// a rectangle of zeros covers nothing, yet holds fill a gap away from (0, 0).
-pub fn fillable(rects: &[u64], gap: u64, b: Rect) -> u64
+// The fillable area of a box, such as a tile, by a part of the table that is
+// enough for it. The table is lent without padding: a rectangle of zeros covers
+// nothing, yet holds fill a gap away from (0, 0).
+pub fn fillable(rects: &[u64], near: Part, gap: u64, b: Rect) -> u64
     requires { ⌜ SmallBox (now rects) gap b ⌝ }
+    requires { ⌜ Serves gap (now rects) b near ⌝ }
     ensures { λ r. ⌜ r ≡ fillableArea gap (rectsOf (now (rects .entry))) b ⌝ }
 {
-    free::free_from(rects, gap, 0, b)
+    let from = near.from;
+    let to = near.to;
+    free::free_from(&rects[from..to], gap, 0, b)
+}
+
+// The part of a table that comes near a box, and so is enough for every box
+// inside. It is short near a row of tiles, where the table goes by rows.
+pub fn part_near(rects: &[u64], gap: u64, b: Rect) -> Part
+    requires { ⌜ SmallBox (now rects) gap b ⌝ }
+    ensures { λ p. ⌜ Serves gap (now (rects .entry)) b p ⌝ }
+{
+    let from = free::next_near(rects, gap, 0, b);
+    let to = free::last_near(rects, gap, from, b);
+    Part { from, to }
 }
 
 // The verdict on a table of amounts, one to a tile, row by row. The order of the

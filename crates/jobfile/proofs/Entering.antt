@@ -15,6 +15,8 @@ use Rattle.geometry.specs.Layout.{rectsOf}
 use Rattle.geometry.proofs.Tables.{rects-length}
 use Rattle.fill.specs.Judge.{tileIndex}
 use Rattle.jobfile.specs.declared.Head.{Head}
+use Rattle.jobfile.specs.declared.Near.{Near}
+use Rattle.jobfile.specs.declared.Near.the-variants.{NoRow}
 use Rattle.jobfile.specs.declared.State.{State}
 use Rattle.jobfile.specs.declared.Form.{Form}
 use Rattle.jobfile.specs.declared.Form.the-variants.{Unknown, Heading, Shape, Fill, End}
@@ -23,11 +25,12 @@ use Rattle.jobfile.specs.declared.Turn.the-variants.{Before, Shapes, Fil
 use Rattle.jobfile.specs.Limits.{unitLimits}
 use Rattle.jobfile.specs.Forms.{tilesAcross, agrees}
 use Rattle.jobfile.specs.Faults.{Standing, beforeHead, noHead, inTurn, lineFault, standsAfter}
-use Rattle.jobfile.specs.Held.{shapesRoom, amountsRoom, tileCount, standing, GoodHead, Sound, Held, TileIn, withShape, Entered}
+use Rattle.jobfile.specs.Held.{shapesRoom, amountsRoom, tileCount, standing, GoodHead, Sound, Held, TileIn, NearHeld, RowAsked, withShape, Entered}
 use Rattle.jobfile.proofs.Heads.{agreement}
 use Rattle.jobfile.proofs.Tables.{stored-rects, stored-behind, stored-length, zeros, take-zeros, drop-zeros, zeros-later}
 use Rattle.jobfile.proofs.Faultless.{check-passes, NoFault, no-fault, no-shape-fault, NoFillFault, no-fill-fault}
 use Rattle.jobfile.proofs.Sound.{after-head, sound-after}
+use Rattle.jobfile.proofs.Faulting.{shapes-held}
 
 heading-turn : (t : Turn) (h : Head) → inTurn t (Heading h) ≡ true → t ≡ Before
 heading-turn Before h e = refl
@@ -78,10 +81,10 @@ entered s rects amounts f s′ rects′ amounts′ k e same held =
 
 module _ (s : State) (rects amounts : List ℕ) (k : Held s rects amounts) where
   on-heading : (h : Head) → lineFault unitLimits (standing s rects amounts) (Heading h) ≡ 0 →
-      Entered s rects amounts (Heading h) (record { turn = Shapes; head = h; count = 0 }) rects amounts
+      Entered s rects amounts (Heading h) (record { turn = Shapes; head = h; count = 0; near = NoRow }) rects amounts
   unfolding standsAfter rectsOf
   on-heading h e =
-      entered s rects amounts (Heading h) (record { turn = Shapes; head = h; count = 0 }) rects amounts k e
+      entered s rects amounts (Heading h) (record { turn = Shapes; head = h; count = 0; near = NoRow }) rects amounts k e
       (ap (λ (l : List ℕ). record { turn = Shapes; head = h; shapes = []; amounts = l }) clean)
       (λ sound.
       record {
@@ -92,6 +95,7 @@ module _ (s : State) (rects amounts : List ℕ) (k : Held s rects amounts) where
         behind = z .rects-zero;
         beyond = ap (drop (tileCount h)) (z .amounts-zero) ∙ drop-zeros (tileCount h) amountsRoom;
         sound = sound;
+        near = tt;
       })
     where
       g : NoFault unitLimits (standing s rects amounts) (Heading h)
@@ -115,10 +119,10 @@ module _ (s : State) (rects amounts : List ℕ) (k : Held s rects amounts) where
       )
 
   on-shape : (r : Rect) → lineFault unitLimits (standing s rects amounts) (Shape r) ≡ 0 →
-      Entered s rects amounts (Shape r) (record { turn = Shapes; head = s .head; count = s .count + 1 }) (withShape rects (s .count) r) amounts
+      Entered s rects amounts (Shape r) (record { turn = Shapes; head = s .head; count = s .count + 1; near = NoRow }) (withShape rects (s .count) r) amounts
   unfolding standsAfter
   on-shape r e =
-      entered s rects amounts (Shape r) (record { turn = Shapes; head = s .head; count = s .count + 1 }) (withShape rects (s .count) r) amounts k e
+      entered s rects amounts (Shape r) (record { turn = Shapes; head = s .head; count = s .count + 1; near = NoRow }) (withShape rects (s .count) r) amounts k e
       (ap (λ (rs : List Rect). record { turn = Shapes; head = s .head; shapes = rs; amounts = take (tileCount (s .head)) amounts })
       (rw (add-one (s .count)) (stored-rects rects (s .count) r space)))
       (λ sound.
@@ -130,6 +134,7 @@ module _ (s : State) (rects amounts : List ℕ) (k : Held s rects amounts) where
         behind = rw (add-one (s .count)) (stored-behind rects (s .count) r space ∙ later);
         beyond = k .beyond;
         sound = sound;
+        near = tt;
       })
     where
       space : 4 * s .count + 4 ≤ length rects
@@ -144,11 +149,11 @@ module _ (s : State) (rects amounts : List ℕ) (k : Held s rects amounts) where
   fill-good : (i j p : ℕ) → lineFault unitLimits (standing s rects amounts) (Fill i j p) ≡ 0 → NoFillFault (standing s rects amounts) i j p
   fill-good i j p e = no-fill-fault (standing s rects amounts) i j p (no-fault unitLimits (standing s rects amounts) (Fill i j p) e .own)
 
-  on-fill : (i j p : ℕ) → lineFault unitLimits (standing s rects amounts) (Fill i j p) ≡ 0 →
-      Entered s rects amounts (Fill i j p) (record { turn = Fills; head = s .head; count = s .count }) rects (set amounts (tileIndex (tilesAcross (s .head)) i j) p)
+  on-fill : (i j p : ℕ) (near : Near) → lineFault unitLimits (standing s rects amounts) (Fill i j p) ≡ 0 → NearHeld (s .head) (take (4 * s .count) rects) near →
+      Entered s rects amounts (Fill i j p) (record { turn = Fills; head = s .head; count = s .count; near = near }) rects (set amounts (tileIndex (tilesAcross (s .head)) i j) p)
   unfolding standsAfter
-  on-fill i j p e =
-      entered s rects amounts (Fill i j p) (record { turn = Fills; head = s .head; count = s .count }) rects (set amounts (tileIndex (tilesAcross (s .head)) i j) p) k e
+  on-fill i j p near e served =
+      entered s rects amounts (Fill i j p) (record { turn = Fills; head = s .head; count = s .count; near = near }) rects (set amounts (tileIndex (tilesAcross (s .head)) i j) p) k e
       (ap (λ (l : List ℕ). record { turn = Fills; head = s .head; shapes = rectsOf (take (4 * s .count) rects); amounts = l })
       (take-set-lt (tileCount (s .head)) amounts (tileIndex (tilesAcross (s .head)) i j) p place))
       (λ sound.
@@ -160,25 +165,26 @@ module _ (s : State) (rects amounts : List ℕ) (k : Held s rects amounts) where
         behind = k .behind;
         beyond = drop-set-lt (tileCount (s .head)) amounts (tileIndex (tilesAcross (s .head)) i j) p place ∙ k .beyond;
         sound = sound;
+        near = served;
       })
     where
       place : tileIndex (tilesAcross (s .head)) i j < tileCount (s .head)
       place = digits-lt (fill-good i j p e .row) (fill-good i j p e .column)
 
   on-end : lineFault unitLimits (standing s rects amounts) End ≡ 0 →
-      Entered s rects amounts End (record { turn = Done; head = s .head; count = s .count }) rects amounts
+      Entered s rects amounts End (record { turn = Done; head = s .head; count = s .count; near = s .near }) rects amounts
   unfolding standsAfter
   on-end e =
-      entered s rects amounts End (record { turn = Done; head = s .head; count = s .count }) rects amounts k e refl
+      entered s rects amounts End (record { turn = Done; head = s .head; count = s .count; near = s .near }) rects amounts k e refl
       (λ sound.
-      record { room = k .room; amounts-room = k .amounts-room; count = k .count; tiles = k .tiles; behind = k .behind; beyond = k .beyond; sound = sound })
+      record { room = k .room; amounts-room = k .amounts-room; count = k .count; tiles = k .tiles; behind = k .behind; beyond = k .beyond; sound = sound; near = k .near })
 
   -- by the form of the line, as the code knows it
   pub enter-unknown : (f : Form) → f ≡ Unknown → lineFault unitLimits (standing s rects amounts) f ≡ 0 → Entered s rects amounts f s rects amounts
   enter-unknown f q e = absurd (false≢true (no-fault unitLimits (standing s rects amounts) Unknown (rw q at e) .spelled))
 
   pub enter-heading : (f : Form) (h : Head) → f ≡ Heading h → lineFault unitLimits (standing s rects amounts) f ≡ 0 →
-      Entered s rects amounts f (record { turn = Shapes; head = h; count = 0 }) rects amounts
+      Entered s rects amounts f (record { turn = Shapes; head = h; count = 0; near = NoRow }) rects amounts
   enter-heading f h q e = rw q (on-heading h (rw q at e))
 
   pub shape-space : (f : Form) (r : Rect) → f ≡ Shape r → lineFault unitLimits (standing s rects amounts) f ≡ 0 → 4 * s .count + 4 ≤ length rects
@@ -186,30 +192,35 @@ module _ (s : State) (rects amounts : List ℕ) (k : Held s rects amounts) where
 
   pub enter-shape : (f : Form) (r : Rect) (rects′ : List ℕ) → f ≡ Shape r → lineFault unitLimits (standing s rects amounts) f ≡ 0 →
       rects′ ≡ withShape rects (s .count) r →
-      Entered s rects amounts f (record { turn = Shapes; head = s .head; count = s .count + 1 }) rects′ amounts
+      Entered s rects amounts f (record { turn = Shapes; head = s .head; count = s .count + 1; near = NoRow }) rects′ amounts
   enter-shape f r rects′ q e new = rw (q, new) (on-shape r (rw q at e))
 
-  pub fill-space : (f : Form) (i j p : ℕ) → f ≡ Fill i j p → lineFault unitLimits (standing s rects amounts) f ≡ 0 →
-      TileIn (s .head) i j × (tileIndex (tilesAcross (s .head)) i j < length amounts)
-  fill-space f i j p q e =
-      (record { few = few-across (s .head) (head .agreement); column = g .column; row = g .row }, omega (arith, digits-lt (g .row) (g .column), few-tiles (s .head) (head .agreement), k .amounts-room))
-    where
-      g : NoFillFault (standing s rects amounts) i j p
-      g = fill-good i j p (rw q at e)
+  module _ (f : Form) (i j p : ℕ) (q : f ≡ Fill i j p) (e : lineFault unitLimits (standing s rects amounts) f ≡ 0) where
+    good : NoFillFault (standing s rects amounts) i j p
+    good = fill-good i j p (rw q at e)
 
-      head : GoodHead (s .head)
-      head =
-          k .sound .headed
-          (after-head (s .turn) (Fill i j p) (no-fault unitLimits (standing s rects amounts) (Fill i j p) (rw q at e) .turn)
-          (λ h n. let z : _≡_ {A = ℕ} 0 1 = cc in omega arith))
+    head : GoodHead (s .head)
+    head =
+        k .sound .headed
+        (after-head (s .turn) (Fill i j p) (no-fault unitLimits (standing s rects amounts) (Fill i j p) (rw q at e) .turn)
+        (λ h n. let z : _≡_ {A = ℕ} 0 1 = cc in omega arith))
 
-  pub enter-fill : (f : Form) (i j p : ℕ) (amounts′ : List ℕ) → f ≡ Fill i j p → lineFault unitLimits (standing s rects amounts) f ≡ 0 →
-      amounts′ ≡ set amounts (tileIndex (tilesAcross (s .head)) i j) p →
-      Entered s rects amounts f (record { turn = Fills; head = s .head; count = s .count }) rects amounts′
-  enter-fill f i j p amounts′ q e new = rw (q, new) (on-fill i j p (rw q at e))
+    pub fill-space : TileIn (s .head) i j × (tileIndex (tilesAcross (s .head)) i j < length amounts)
+    fill-space = (
+      record { few = few-across (s .head) (head .agreement); column = good .column; row = good .row },
+      omega (arith, digits-lt (good .row) (good .column), few-tiles (s .head) (head .agreement), k .amounts-room),
+    )
+
+    pub fill-row-asked : RowAsked s rects j
+    fill-row-asked = record { shapes = shapes-held s rects amounts k; head = head; inside = good .row; near = k .near }
+
+  pub enter-fill : (f : Form) (i j p : ℕ) (amounts′ : List ℕ) (near : Near) → f ≡ Fill i j p → lineFault unitLimits (standing s rects amounts) f ≡ 0 →
+      amounts′ ≡ set amounts (tileIndex (tilesAcross (s .head)) i j) p → NearHeld (s .head) (take (4 * s .count) rects) near →
+      Entered s rects amounts f (record { turn = Fills; head = s .head; count = s .count; near = near }) rects amounts′
+  enter-fill f i j p amounts′ near q e new served = rw (q, new) (on-fill i j p near (rw q at e) served)
 
   pub enter-end : (f : Form) → f ≡ End → lineFault unitLimits (standing s rects amounts) f ≡ 0 →
-      Entered s rects amounts f (record { turn = Done; head = s .head; count = s .count }) rects amounts
+      Entered s rects amounts f (record { turn = Done; head = s .head; count = s .count; near = s .near }) rects amounts
   enter-end f q e = rw q (on-end (rw q at e))
 
 -- the place of a tile in its table fits the code's numbers

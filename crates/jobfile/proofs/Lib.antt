@@ -3,6 +3,7 @@ pub mod Faultless
 pub mod Sound
 pub mod Entering
 pub mod Heads
+pub mod Rows
 pub mod Faulting
 pub mod Reading
 pub mod Lines

@@ -15,6 +15,7 @@ use Rattle.spelling.specs.Scanning.{lineLength}
 use Rattle.spelling.proofs.Lines.{pieces-line, pieces-last}
 use Rattle.jobfile.specs.declared.Head.{Head}
 use Rattle.jobfile.specs.declared.Form.{Form}
+use Rattle.jobfile.specs.declared.Near.the-variants.{NoRow}
 use Rattle.jobfile.specs.declared.State.{State}
 use Rattle.jobfile.specs.declared.Step.{Step}
 use Rattle.jobfile.specs.declared.Ending.{Ending}
@@ -150,7 +151,7 @@ pub record ReadSoFar (file : List ℕ) (s : State) (rects amounts : List ℕ) (l
   pub whole : readLines unitLimits beforeHead 1 (pieces file) ≡ readLines unitLimits (standing s rects amounts) line (pieces (drop at file))
 
 pub read-so-far-start : (file rects amounts : List ℕ) (h : Head) → rects ≡ zeros shapesRoom → amounts ≡ zeros amountsRoom → h ≡ noHead →
-    ReadSoFar file (record { turn = Before; head = h; count = 0 }) rects amounts 1 0
+    ReadSoFar file (record { turn = Before; head = h; count = 0; near = NoRow }) rects amounts 1 0
 unfolding rectsOf
 read-so-far-start file rects amounts h er ea eh =
     rw (er, ea, eh)
@@ -163,6 +164,7 @@ read-so-far-start file rects amounts h er ea eh =
         behind = refl;
         beyond = refl;
         sound = sound-start;
+        near = tt;
       };
       within = omega arith;
       lines = omega arith;

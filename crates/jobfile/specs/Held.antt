@@ -2,19 +2,23 @@
 -- reader hands back a file's outcome. A buyer need not read it: no contract of the unit's public functions names it.
 use Prim.Native.Nat.{ℕ, _+_, _-_, _*_, _≤_, _<_}
 use mathlib.Core.Path.{_≡_}
-use mathlib.Core.Bool.{true, false}
+use mathlib.Core.Bool.{Bool, true, false}
 use mathlib.Core.List.{List, [], _∷_, _++_}
 use lib.Dec.{ltb, eqb}
 use lib.ListN.{length, take, drop, set, replicate}
 use Rattle.geometry.specs.declared.Rect.{Rect}
 use Rattle.geometry.specs.Layout.{Disjoint, Drawn, rectsOf}
 use Rattle.spelling.specs.Scanning.{lineLength}
+use Rattle.fill.specs.declared.Part.{Part}
 use Rattle.fill.specs.Eligible.{tile, fillableArea}
+use Rattle.fill.specs.Free.{Serves}
 use Rattle.fill.specs.Judge.{numberAt}
 use Rattle.jobfile.specs.declared.Head.{Head}
 use Rattle.jobfile.specs.declared.Form.{Form}
 use Rattle.jobfile.specs.declared.Turn.{Turn}
 use Rattle.jobfile.specs.declared.Turn.the-variants.{Before, Shapes, Fills, Done}
+use Rattle.jobfile.specs.declared.Near.{Near}
+use Rattle.jobfile.specs.declared.Near.the-variants.{NoRow, Row}
 use Rattle.jobfile.specs.declared.State.{State}
 use Rattle.jobfile.specs.declared.Step.{Step}
 use Rattle.jobfile.specs.declared.Ending.{Ending}
@@ -62,6 +66,25 @@ pub record Sound (st : Standing) : Type 0 where
   pub fillable : (i j : ℕ) → i < tilesAcross (st .head) → j < tilesAcross (st .head) →
       numberAt (st .amounts) (tilesAcross (st .head)) i j ≤ fillableArea (st .head .gap) (st .shapes) (tile (tileSide (st .head)) i j)
 
+-- a row of tiles, as a box
+abbrev pub rowBox : Head → ℕ → Rect
+rowBox h j = record { x1 = 0; y1 = j * tileSide h; x2 = h .size; y2 = j * tileSide h + tileSide h }
+
+-- the part of a table that is at hand is enough for the tiles of its row
+abbrev pub NearHeld : Head → (table : List ℕ) → Near → Type 0
+NearHeld h table NoRow = Unit {0}
+NearHeld h table (Row j p) = Serves (h .gap) table (rowBox h j) p
+
+-- whether it is a row's
+abbrev pub isRow : Near → ℕ → Bool
+isRow NoRow row = false
+isRow (Row j p) row = eqb j row
+
+-- the part for a row, of a table of so many numbers
+abbrev pub partFor : Near → (row all : ℕ) → Part
+partFor NoRow row all = record { from = 0; to = all }
+partFor (Row j p) row all = elim (eqb j row) [ true ↦ p | false ↦ record { from = 0; to = all } ]
+
 -- a state and its tables hold what stands: 0 behind the rectangles and behind the amounts
 pub record Held (s : State) (rects amounts : List ℕ) : Type 0 where
   pub room : length rects ≡ shapesRoom
@@ -71,6 +94,7 @@ pub record Held (s : State) (rects amounts : List ℕ) : Type 0 where
   pub behind : drop (4 * s .count) rects ≡ replicate (shapesRoom - 4 * s .count) 0
   pub beyond : drop (tileCount (s .head)) amounts ≡ replicate (amountsRoom - tileCount (s .head)) 0
   pub sound : Sound (standing s rects amounts)
+  pub near : NearHeld (s .head) (take (4 * s .count) rects) (s .near)
 
 -- the rectangles that a state counts are in the table, and drawn
 pub record ShapesHeld (s : State) (rects : List ℕ) : Type 0 where
@@ -88,6 +112,14 @@ pub record TileAsked (s : State) (rects : List ℕ) (i j : ℕ) : Type 0 where
   pub shapes : ShapesHeld s rects
   pub head : GoodHead (s .head)
   pub tile : TileIn (s .head) i j
+  pub near : NearHeld (s .head) (take (4 * s .count) rects) (s .near)
+
+-- and what the part of the table for a row asks
+pub record RowAsked (s : State) (rects : List ℕ) (row : ℕ) : Type 0 where
+  pub shapes : ShapesHeld s rects
+  pub head : GoodHead (s .head)
+  pub inside : row < tilesAcross (s .head)
+  pub near : NearHeld (s .head) (take (4 * s .count) rects) (s .near)
 
 -- a table with the four numbers of a rectangle stored behind n rectangles
 abbrev pub withShape : List ℕ → ℕ → Rect → List ℕ

@@ -8,6 +8,7 @@ use crate::forms::head_agrees;
 use crate::forms::in_range;
 use crate::forms::tile_side;
 use crate::forms::tiles_across;
+use crate::held::part_for;
 use crate::held::tile_place;
 use crate::limits::MOST_SHAPES;
 use fill::fillable;
@@ -99,8 +100,10 @@ fn tile_room(s: State, rects: &[u64], i: u64, j: u64) -> u64
     let head = s.head;
     let count = s.count;
     let end = 4 * count;
+    let near = s.near;
     let b = tile_box(tile_side(head), i, j);
-    fillable(&rects[..end], head.gap, b)
+    let part = part_for(near, j, end);
+    fillable(&rects[..end], part, head.gap, b)
 }
 
 // The faults of a fill.

@@ -5,6 +5,7 @@ mod held;
 mod limits;
 mod reader;
 
+use fill::Part;
 pub use forms::plan_of;
 pub use forms::tile_count;
 use geometry::Rect;
@@ -59,11 +60,19 @@ pub struct Job {
     pub amounts: [u64; AMOUNTS_ROOM],
 }
 
+// The part of the rectangles' table that is enough for a row of tiles, that of the
+// last fill: most fills come row by row.
+enum Near {
+    NoRow,
+    Row(u64, Part),
+}
+
 // What stands while a file is read, beside the two tables.
 struct State {
     turn: Turn,
     head: Head,
     count: usize,
+    near: Near,
 }
 
 // What reading a line comes to: its fault or 0, its length with its line feed,

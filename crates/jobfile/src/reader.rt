@@ -1,6 +1,7 @@
 // The reader: line by line, each handed the unread part of the file.
 use crate::Ending;
 use crate::Job;
+use crate::Near;
 use crate::State;
 use crate::Step;
 use crate::Turn;
@@ -70,6 +71,7 @@ pub(crate) fn read_lines(file: &[u8], rects: &mut [u64], amounts: &mut [u64]) ->
         turn: Turn::Before,
         head: no_head(),
         count: 0,
+        near: Near::NoRow,
     };
     let mut line: u64 = 1;
     let mut at: usize = 0;

@@ -1,12 +1,21 @@
--- `fill::fillable` meets its contract: the eligible squares are those outside the grown rectangles. Assumes nothing.
-use mathlib.Core.Path.{sym, _∙_}
+-- `fill::fillable` meets its contract: what is free of the part is what is fillable by the table. Assumes nothing.
+use native.Mathlib.Omega.{arith}
 use borrow.Author.Needs.{needs}
-use Rattle.fill.proofs.Grown.{fillable-grown}
+use Rattle.fill.proofs.Near.{small-part, part-counts}
 use Rattle.fill.proofs.fillable.Statement.{statement}
 use Rattle.fill.proofs.fillable.Tie as tie
 
+free-from-requires : tie.Need-free-from-requires
+free-from-requires c κs =
+    let s = c .before .before in
+    (omega arith, small-part (s .args .gap) (s .args .rects .now) (s .args .b) (s .args .near) (s .pre .0))
+
 returns : tie.Need-returns
-returns c = c .free-from .ensures ∙ sym (fillable-grown _ _ _)
+returns c =
+    let s = c .before .before .before in
+    part-counts (s .args .gap) (s .args .rects .now) (s .args .b) (s .args .near) _ (s .pre .1) (c .free-from .ensures)
 
 pub fillable-spec : {M : Type 1} → statement M
-fillable-spec = tie.close (tie.spec (λ c κs. search needs) returns)
+fillable-spec =
+    tie.close
+    (tie.spec (λ c. search needs) (λ c. omega (arith, c .before .pre .1 .order)) (λ c. omega (arith, c .before .pre .1 .order)) (λ c. omega (arith, c .before .pre .1 .within)) free-from-requires returns)

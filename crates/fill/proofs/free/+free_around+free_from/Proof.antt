@@ -10,6 +10,7 @@ use borrow.Fn.PlainCycle.{Measures, is, falls, and}
 use lib.ListN.{length}
 use Rattle.geometry.specs.Sizes.{largest}
 use Rattle.fill.proofs.Cutting.{full-box, empty-free, end-free, skip-free, cut-free, meeting-within, part-small, parts-fit}
+use Rattle.fill.proofs.Near.{skipped-free}
 use Rattle.fill.proofs.free.free_around.Reads as around
 use Rattle.fill.proofs.free.free_around.Kinds as around-kinds
 use Rattle.fill.proofs.free.+free_around+free_from.Lts-free_around as around-lts
@@ -79,7 +80,7 @@ pub +free-around+free-from-spec : {M : Type 1} → statement M
     let small = c .before .before .before .before .before .pre .1 .1 in
     let full = full-box _ _ (c .before .before .before .is-empty .ensures) (c .before .before .if1 .left) in
     record { across = le-of-lt (full .0); up = le-of-lt (full .1); right = small .right; high = small .high })
-    (λ c. end-free _ _ _ _ _ (c .before .if2 .taken) (c .size .ensures) ∙ c .before .before .next-near .ensures .same)
+    (λ c. end-free _ _ _ _ _ (c .before .if2 .taken) (c .size .ensures) ∙ skipped-free _ _ _ _ _ (c .before .before .next-near .ensures))
     (λ c κs. (c .if2 .left, c .before .before .before .before .before .pre .1 .1))
     (λ c κs. search needs)
     (λ c. omega arith)
@@ -90,7 +91,7 @@ pub +free-around+free-from-spec : {M : Type 1} → statement M
     (λ c.
     skip-free _ _ _ _ _ _ _ (c .before .before .before .before .if2 .left) (c .before .before .before .hit-at .ensures) (c .before .before .is-empty2 .ensures)
     (c .before .if3 .taken) (c .free-from .ensures)
-    ∙ c .before .before .before .before .before .next-near .ensures .same)
+    ∙ skipped-free _ _ _ _ _ (c .before .before .before .before .before .next-near .ensures))
     (λ c. omega arith)
     (λ c κs.
     let s = c .before .before .before .before .before .before .before .before in
@@ -100,4 +101,4 @@ pub +free-around+free-from-spec : {M : Type 1} → statement M
     (λ c.
     cut-free _ _ _ _ _ _ _ (c .before .before .before .before .if2 .left) (c .before .before .before .hit-at .ensures) (c .before .before .is-empty2 .ensures)
     (c .before .if3 .left) (c .free-around .ensures)
-    ∙ c .before .before .before .before .before .next-near .ensures .same))
+    ∙ skipped-free _ _ _ _ _ (c .before .before .before .before .before .next-near .ensures)))

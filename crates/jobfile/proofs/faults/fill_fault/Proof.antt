@@ -34,6 +34,7 @@ tile-room-requires c κs =
       shapes = shapes-held (start .args .s) (now (start .args .rects)) (now (start .args .amounts)) (start .pre .0);
       head = start .pre .1;
       tile = record { few = few-across (start .args .s .head) (start .pre .1 .agreement); column = omega arith; row = omega arith };
+      near = start .pre .0 .near;
     }
 
 pub fill-fault-spec : {M : Type 1} → statement M

@@ -1,4 +1,4 @@
--- `jobfile::faults::tile_room` meets its contract: the box is the tile's, and the rectangles are those that stand. Assumes nothing.
+-- `jobfile::faults::tile_room` meets its contract: the box is the tile's, and the part is enough for it. Assumes nothing.
 use Prim.Native.Nat.{ℕ, _*_}
 use mathlib.Core.Path.{_≡_, sym, ap, _∙_}
 use borrow.Author.Needs.{needs}
@@ -8,6 +8,7 @@ use lib.Seq.{length-take-le}
 use Rattle.geometry.specs.Layout.{rectsOf}
 use Rattle.fill.specs.Eligible.{tile, fillableArea}
 use Rattle.jobfile.specs.Forms.{tileSide}
+use Rattle.jobfile.proofs.Rows.{tile-served}
 use Rattle.jobfile.proofs.Faulting.{tile-corners, tile-asked-small}
 use Rattle.jobfile.proofs.faults.tile_room.Statement.{statement}
 use Rattle.jobfile.proofs.faults.tile_room.Tie as tie
@@ -27,16 +28,22 @@ box c =
 
 fillable-requires : tie.Need-fillable-requires
 fillable-requires c κs =
-    let start = c .before .before .before .before .before in
-    tile-asked-small (start .args .s) (now (start .args .rects)) _ _ _ (start .pre) (box (c .before))
+    let start = c .before .before .before .before .before .before in
+    let s = start .args .s in
+    let is = box (c .before .before) in (
+      tile-asked-small s (now (start .args .rects)) _ _ _ (start .pre) is,
+      tile-served (s .head) (take (4 * s .count) (now (start .args .rects))) (s .near) _ _ (4 * s .count) _ _ (start .pre .head) (start .pre .tile) (start .pre .near)
+          (sym (length-take-le _ _ (start .pre .shapes .within))) is (c .before .part-for .ensures),
+    )
 
 returns : tie.Need-returns
 returns c =
-    let start = c .before .before .before .before .before .before in
+    let start = c .before .before .before .before .before .before .before in
     c .fillable .ensures
-    ∙ ap (fillableArea (start .args .s .head .gap) (rectsOf (take (4 * start .args .s .count) (now (start .args .rects))))) (box (c .before .before))
+    ∙ ap (fillableArea (start .args .s .head .gap) (rectsOf (take (4 * start .args .s .count) (now (start .args .rects))))) (box (c .before .before .before))
 
 pub tile-room-spec : {M : Type 1} → statement M
 tile-room-spec =
     tie.close
-    (tie.spec (λ c. search needs) (λ c κs. search needs) tile-box-requires (λ c. sym (length-take-le _ _ (c .before .before .before .before .before .pre .shapes .within))) fillable-requires returns)
+    (tie.spec (λ c. search needs) (λ c κs. search needs) tile-box-requires (λ c κs. search needs)
+    (λ c. sym (length-take-le _ _ (c .before .before .before .before .before .before .pre .shapes .within))) fillable-requires returns)
