@@ -6,3 +6,4 @@ pub mod Promise
 pub mod Placing
 pub mod Windows
 pub mod Loads
+pub mod Summing
