@@ -3,7 +3,7 @@ use Prim.Native.Nat.{ℕ, suc, _+_, _-_, _*_, _/_, _%_, _≤_, _<_, min}
 use mathlib.Core.Path.{_≡_, refl, sym, ap, ap₂, _∙_, subst}
 use mathlib.Core.List.{List}
 use mathlib.Core.Logic.{_⊎_, inl, inr}
-use native.Mathlib.Nat.{add-zero, sub-zero, suc-mul, mul-le-mul, mul-le-mul-right}
+use native.Mathlib.Nat.{sub-zero, suc-mul, mul-le-mul, mul-le-mul-right}
 use native.Mathlib.Numerals.{add-one}
 use native.Mathlib.Omega.{arith}
 use lib.Arith.{digits-lt, digits-div, digits-mod}
@@ -33,6 +33,10 @@ use Rattle.fill.proofs.Grown.{fillable-small}
 use Rattle.fill.proofs.Starts.{rows-cong}
 use Rattle.fill.proofs.Windows.{upper-inside, lower-inside}
 use Rattle.fill.proofs.Cutting.{same-box}
+
+-- tile (i, j) has a place in a table with a number for each tile
+pub place-within : (across i j m : ℕ) → i < across → j < across → across * across ≤ m → j * across + i < m
+place-within across i j m h k l = omega (arith, digits-lt {q = j} {m = across} {r = i} {c = across} k h)
 
 -- ---- a table that is filled, tile by tile and row by row
 
@@ -141,7 +145,7 @@ module _ (lows highs amounts : List ℕ) (plan : Plan) (j i : ℕ) (z : RowTiled
   tile-upright = record { order = tile-end (plan .side) i; small = tile-right }
 
   pub place-inside : j * plan .across + i < plan .across * plan .across
-  place-inside = omega (arith, mul-le-mul-right {m = suc j} {n = plan .across} (plan .across) (z .row), suc-mul j (plan .across))
+  place-inside = place-within (plan .across) i j (plan .across * plan .across) h (z .row) (omega arith)
 
   pub place-small : j * plan .across + i < tilesRoom
   place-small = omega (arith, place-inside, mul-le-mul (z .few) (z .few))
@@ -173,7 +177,7 @@ module _ (rects amounts : List ℕ) (plan : Plan) (before table : List ℕ)
 
   table-load : (i j : ℕ) → i < across → j < across → numberAt table across i j ≡ loads i j
   table-load i j h k =
-      s .set (j * across + i) (omega arith) (digits-lt {q = j} {m = across} {r = i} {c = across} k h)
+      s .set (j * across + i) (omega arith) (place-within across i j (across * across) h k (omega arith))
       ∙ ap₂ loads (digits-mod j {m = across} {r = i} h) (digits-div j {m = across} {r = i} h)
 
   pub table-light : Tiled rects amounts plan → across * across ≤ length before → Loads table across

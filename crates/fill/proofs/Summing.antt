@@ -3,13 +3,12 @@ use Prim.Native.Nat.{ℕ, zero, suc, _+_, _-_, _*_, _≤_, _<_}
 use mathlib.Core.Path.{_≡_, refl, sym, ap, ap₂, _∙_, subst}
 use mathlib.Core.List.{List}
 use mathlib.Core.Logic.{_⊎_, inl, inr}
-use native.Mathlib.Nat.{le-trans, add-zero, add-assoc, suc-mul}
+use native.Mathlib.Nat.{add-zero, add-assoc, suc-mul}
 use native.Mathlib.Numerals.{add-one}
 use native.Mathlib.Omega.{arith}
 use lib.Arith.{digits-lt}
 use lib.ListN.{length, getD, set}
 use Rattle.laws.proofs.Tests.{below-or-last}
-use Rattle.geometry.specs.declared.Rect.{Rect}
 use Rattle.geometry.specs.Count.{sum, span, boxSum}
 use Rattle.geometry.proofs.Counting.{sum-zero, span-cong, span-split, span-one, span-empty, box-within, box-cut-rows, box-cut-columns}
 use Rattle.geometry.specs.Layout.{rectsOf}
@@ -18,11 +17,10 @@ use Rattle.fill.specs.Sizes.{heaviest, Tiled}
 use Rattle.fill.specs.Judge.{TileBox, numberAt, load, judged, verdictOf}
 use Rattle.fill.specs.Windows.{ruleOf, loadOf, searchBy, tilesBefore, TileTable, Loads, TilesInLayout, Filled}
 use Rattle.fill.specs.Corners.{cornerOf, cornerTotal, cornerIn, cornerAlong, LoadRow, Summed, CornerSums}
-use Rattle.fill.proofs.Loads.{filled-start, filled-next, filled-to, table-light, box-load, search-verdict}
+use Rattle.fill.proofs.Loads.{place-within, filled-start, filled-next, filled-to, table-light, box-load, search-verdict}
 
--- tile (i, j) stands in the table
-pub place-within : (across i j m : ℕ) → i < across → j < across → across * across ≤ m → j * across + i < m
-place-within across i j m h k l = omega (arith, digits-lt {q = j} {m = across} {r = i} {c = across} k h)
+same-tiles : (l m : List ℕ) (across : ℕ) → TileTable l across → length m ≡ length l → TileTable m across
+same-tiles l m across t e = record { few = t .few; full = omega (arith, t .full) }
 
 -- ---- one corner
 
@@ -95,16 +93,16 @@ row-start l across j =
       filled = filled-to _ _ _ _ _ _ (filled-start _ _ _) (sym (add-zero (j * across)));
     }
 
-module _ (l m : List ℕ) (across j run i : ℕ) (s : RowSummed l m across j run i) where
+module _ {l m : List ℕ} {across j run i : ℕ} (s : RowSummed l m across j run i) where
   pub row-end : across ≤ i → Filled (cornerAlong l across j) l m (j * across) (suc j * across)
   row-end h = filled-to _ _ _ _ _ _ (s .filled) (omega (arith, suc-mul j across))
 
   module _ (w : LoadRow l across j) (h : i < across) where
-    pub place-inside : j * across + i < length m
-    place-inside = omega (arith, place-within across i j (length l) h (w .row) (w .tiles .full), s .filled .size)
+    pub tile-place : j * across + i < length m
+    tile-place = omega (arith, place-within across i j (length l) h (w .row) (w .tiles .full), s .filled .size)
 
-    pub still-table : TileTable m across
-    still-table = record { few = w .tiles .few; full = omega (arith, w .tiles .full, s .filled .size) }
+    pub still-tiles : TileTable m across
+    still-tiles = same-tiles l m across (w .tiles) (s .filled .size)
 
     run-next : run + getD m (j * across + i) 0 ≡ span 0 (i + 1) (λ x. numberAt l across x j)
     run-next =
@@ -132,7 +130,7 @@ module _ (l m : List ℕ) (across j run i : ℕ) (s : RowSummed l m across j run
             within = omega arith;
             so-far = run-next;
             filled = filled-to _ _ _ _ _ _
-                (filled-next _ _ _ _ _ _ (s .filled) (omega arith) place-inside (sum-is ∙ ap (cornerIn l across j) column)) (add-assoc (j * across) i 1);
+                (filled-next _ _ _ _ _ _ (s .filled) (omega arith) tile-place (sum-is ∙ ap (cornerIn l across j) column)) (add-assoc (j * across) i 1);
           }
         where
           column : i + 1 ≡ suc (j * across + i - j * across)
@@ -167,7 +165,7 @@ module _ (l m : List ℕ) (across j : ℕ) (s : Summed l m across j) (h : j < ac
   pub load-row : Loads l across → LoadRow m across j
   load-row w =
       record {
-        tiles = record { few = w .tiles .few; full = omega (arith, w .tiles .full, s .size) };
+        tiles = same-tiles l m across (w .tiles) (s .size);
         row = h;
         light = λ x k.
             omega (
@@ -180,7 +178,12 @@ module _ (l m : List ℕ) (across j : ℕ) (s : Summed l m across j) (h : j < ac
 
   pub summed-next : (n : List ℕ) → Filled (cornerAlong m across j) m n (j * across) (suc j * across) → Summed l n across (j + 1)
   summed-next n r =
-      rw add-one (record { size = r .size ∙ s .size; corners = λ x y p q. go x y p (below-or-last y (suc j) (omega arith)); rest = λ k p. r .rest k p ∙ s .rest k (omega (arith, suc-mul j across)) })
+      rw add-one
+      (record {
+        size = r .size ∙ s .size;
+        corners = λ x y p q. go x y p (below-or-last y (suc j) (omega arith));
+        rest = λ k p. r .rest k p ∙ s .rest k (omega (arith, suc-mul j across));
+      })
     where
       last : (x : ℕ) → x ≤ across → cornerOf n across x (suc j) ≡ boxSum (tilesBefore x (suc j)) (numberAt l across)
       last zero p = sym (no-columns l across (suc j))
@@ -209,7 +212,7 @@ module _ (rects amounts : List ℕ) (plan : Plan) (before table sums : List ℕ)
       let w = table-light rects amounts plan before table f t full in
       record {
         load = numberAt table (plan .across);
-        tiles = record { few = w .tiles .few; full = omega (arith, w .tiles .full, s .size) };
+        tiles = same-tiles table sums (plan .across) (w .tiles) (s .size);
         light = w .light;
         corners = s .corners;
       }

@@ -4,7 +4,6 @@ use Prim.Native.Nat.{ℕ, zero, suc, _+_, _-_, _*_, _≤_, _<_}
 use mathlib.Core.Path.{_≡_}
 use mathlib.Core.List.{List}
 use lib.ListN.{length, getD}
-use Rattle.geometry.specs.declared.Rect.{Rect}
 use Rattle.geometry.specs.Count.{span, boxSum}
 use Rattle.fill.specs.Sizes.{heaviest}
 use Rattle.fill.specs.Judge.{TileBox, numberAt}

@@ -37,7 +37,8 @@ fn tiles_for_upper(rule: Rule, margin: u64, i: u64, j: u64) -> Rect
 }
 
 // The tiles whose load the lower bound is held to, a box that counts in tiles:
-// those of the window at a start, less the first `margin`, or all of them.
+// those of the window at a start, less the first `margin`, if it has so many: a
+// box never ends before it begins.
 fn tiles_for_lower(rule: Rule, margin: u64, i: u64, j: u64) -> Rect
     requires { ⌜ IsStart rule margin i j ⌝ }
     ensures { λ b. ⌜ b ≡ tilesForLower rule margin i j ⌝ }

@@ -22,19 +22,19 @@ sum-rows-requires c κs =
 
 judge-sums-requires : tie.Need-judge-sums-requires
 judge-sums-requires c κs =
-    let s = c .before .before .before .before .before .before .before .before .before .before .before .before .before .before in
+    let d = c .before .before .before .before .before .before in
+    let s = d .before .before .before .before .before .before .before .before in
     let few = tiles-few (s .args .plan .across) (s .pre .0 .tiled .few) in
-    let set = c .before .before .before .before .before .before .before .before .before .set-loads .ensures in
-    (plan-sums _ _ _ _ _ _ set (s .pre .0 .tiled) few (c .before .before .before .before .before .before .sum-rows .ensures), s .pre .0 .fits)
+    (plan-sums _ _ _ _ _ _ (d .before .before .before .set-loads .ensures) (s .pre .0 .tiled) few (d .sum-rows .ensures), s .pre .0 .fits)
 
 returns : tie.Need-returns
 returns c =
-    let s = c .before .before .before .before .before .before .before .before .before .before .before .before .before .before .before in
-    let a = s .args in
-    let few = tiles-few (a .plan .across) (s .pre .0 .tiled .few) in
-    let set = c .before .before .before .before .before .before .before .before .before .before .set-loads .ensures in
+    let d = c .before .before .before .before .before .before .before in
+    let s = d .before .before .before .before .before .before .before .before in
+    let few = tiles-few (s .args .plan .across) (s .pre .0 .tiled .few) in
     c .judge-sums .ensures
-    ∙ sums-verdict (a .rects .now) (a .amounts .now) (a .plan) _ _ _ set (s .pre .0 .tiled) few (c .before .before .before .before .before .before .before .sum-rows .ensures) (s .pre .0 .fits)
+    ∙ sums-verdict (s .args .rects .now) (s .args .amounts .now) (s .args .plan) _ _ _ (d .before .before .before .set-loads .ensures) (s .pre .0 .tiled) few
+    (d .sum-rows .ensures) (s .pre .0 .fits)
 
 lower-fits : (s : tie.Start) → let p = s .args .plan in
     (p .lower * p .window ≤ topBound * widest) × (p .lower * p .window * p .window ≤ topBound * widest * widest)

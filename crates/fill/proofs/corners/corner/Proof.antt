@@ -4,7 +4,8 @@ use Prim.Native.Nat.{_+_, _-_, _*_, _≤_, _<_}
 use native.Mathlib.Omega.{arith}
 use borrow.Author.Needs.{needs}
 use lib.ListN.{length}
-use Rattle.fill.proofs.Summing.{place-within, corner-none, corner-some}
+use Rattle.fill.proofs.Loads.{place-within}
+use Rattle.fill.proofs.Summing.{corner-none, corner-some}
 use Rattle.fill.proofs.corners.corner.Statement.{statement}
 use Rattle.fill.proofs.corners.corner.Tie as tie
 

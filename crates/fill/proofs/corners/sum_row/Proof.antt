@@ -4,7 +4,8 @@ use Prim.Native.Nat.{_+_, _-_, _*_, _<_}
 use native.Mathlib.Omega.{arith}
 use borrow.Author.Needs.{needs}
 use lib.ListN.{length}
-use Rattle.fill.proofs.Summing.{RowSummed, row-start, row-next, row-end, place-inside, place-within, still-table, run-light, sum-light}
+use Rattle.fill.proofs.Loads.{place-within}
+use Rattle.fill.proofs.Summing.{RowSummed, row-start, row-next, row-end, tile-place, still-tiles, run-light, sum-light}
 use Rattle.fill.proofs.corners.sum_row.Statement.{statement}
 use Rattle.fill.proofs.corners.sum_row.Tie as tie
 
@@ -21,42 +22,26 @@ mul-first c =
     omega (arith, place-within (a .across) 0 (a .j) (length (a .table .now)) (omega (arith, s .pre .row)) (s .pre .row) (s .pre .tiles .full))
 
 place : (c : tie.In-loop Inv-loop μ-loop) → let a = c .before .before .before .args in let at = c .before .loop in a .j * a .across + at .i < length (at .table)
-place c =
-    let s = c .before .before .before in
-    let at = c .before .loop in
-    place-inside (s .args .table .now) (at .table) (s .args .across) (s .args .j) (at .run) (at .i) (at .inv) (s .pre) (c .loop-test .taken)
+place c = tile-place (c .before .loop .inv) (c .before .before .before .pre) (c .loop-test .taken)
 
 add-run : tie.Need-add-run Inv-loop μ-loop
-add-run c =
-    let s = c .before .before .before .before in
-    let at = c .before .before .loop in
-    omega (arith, run-light (s .args .table .now) (at .table) (s .args .across) (s .args .j) (at .run) (at .i) (at .inv) (s .pre) (c .before .loop-test .taken))
+add-run c = let at = c .before in omega (arith, run-light (at .before .loop .inv) (at .before .before .before .pre) (at .loop-test .taken))
 
 corner-requires : tie.Need-corner-requires Inv-loop μ-loop
 corner-requires c κs =
-    let s = c .before .before .before .before .before in
-    let at = c .before .before .before .loop in
-    let more = c .before .before .loop-test .taken in
-    (still-table (s .args .table .now) (at .table) (s .args .across) (s .args .j) (at .run) (at .i) (at .inv) (s .pre) more, (omega arith, omega (arith, s .pre .row)))
+    let at = c .before .before in
+    let w = at .before .before .before .pre in
+    (still-tiles (at .before .loop .inv) w (at .loop-test .taken), (omega (arith, at .loop-test .taken), omega (arith, w .row)))
 
 add-table : tie.Need-add-table Inv-loop μ-loop
 add-table c =
-    let s = c .before .before .before .before .before .before in
-    let at = c .before .before .before .before .loop in
-    omega (arith, sum-light (s .args .table .now) (at .table) (s .args .across) (s .args .j) (at .run) (at .i) (at .inv) (s .pre) (c .before .before .before .loop-test .taken) (c .corner .result) (c .corner .ensures))
+    let at = c .before .before .before in
+    omega (arith, sum-light (at .before .loop .inv) (at .before .before .before .pre) (at .loop-test .taken) _ (c .corner .ensures))
 
 loop-again : tie.Need-loop-again Inv-loop μ-loop
 loop-again c =
-    let s = c .before .before .before .before .before .before in
-    let at = c .before .before .before .before .loop in
-    row-next (s .args .table .now) (at .table) (s .args .across) (s .args .j) (at .run) (at .i) (at .inv) (s .pre) (c .before .before .before .loop-test .taken)
-    (c .corner .result) (c .corner .ensures)
-
-returns : tie.Need-returns Inv-loop μ-loop
-returns c =
-    let a = c .before .before .before .args in
-    let at = c .before .loop in
-    row-end (a .table .now) (at .table) (a .across) (a .j) (at .run) (at .i) (at .inv) (c .loop-test .left)
+    let at = c .before .before .before in
+    row-next (at .before .loop .inv) (at .before .before .before .pre) (at .loop-test .taken) _ (c .corner .ensures)
 
 pub sum-row-spec : {M : Type 1} → statement M
 sum-row-spec =
@@ -79,4 +64,4 @@ sum-row-spec =
     (λ c. omega arith)
     loop-again
     (λ c. c .before .loop .inv .filled .size)
-    returns)
+    (λ c. row-end (c .before .loop .inv) (c .loop-test .left)))
