@@ -7,3 +7,4 @@ pub mod Promise
 pub mod Placing
 pub mod Windows
 pub mod Loads
+pub mod Summing

@@ -1,9 +1,9 @@
--- The table of tile loads: how it is filled, that its whole load fits 64 bits, and that the search over it gives the verdict.
+-- The table of tile loads: how it is filled, that its whole load fits 64 bits, and that the search by it gives the verdict.
 use Prim.Native.Nat.{ℕ, suc, _+_, _-_, _*_, _/_, _%_, _≤_, _<_, min}
 use mathlib.Core.Path.{_≡_, refl, sym, ap, ap₂, _∙_, subst}
 use mathlib.Core.List.{List}
 use mathlib.Core.Logic.{_⊎_, inl, inr}
-use native.Mathlib.Nat.{add-zero, sub-zero, suc-mul, mul-le-mul, mul-le-mul-right}
+use native.Mathlib.Nat.{sub-zero, suc-mul, mul-le-mul, mul-le-mul-right}
 use native.Mathlib.Numerals.{add-one}
 use native.Mathlib.Omega.{arith}
 use lib.Arith.{digits-lt, digits-div, digits-mod}
@@ -12,9 +12,9 @@ use lib.Seq.{getD-set-same, getD-set-other}
 use Rattle.laws.proofs.Tests.{le-or-lt, below-or-last}
 use Rattle.geometry.specs.declared.Rect.{Rect}
 use Rattle.geometry.specs.Sizes.{widest, largest}
-use Rattle.geometry.specs.Count.{boxSum}
+use Rattle.geometry.specs.Count.{span, boxSum}
 use Rattle.geometry.specs.Layout.{coveredArea, rectsOf}
-use Rattle.geometry.proofs.Counting.{Inside, box-cong, box-le, box-const}
+use Rattle.geometry.proofs.Counting.{Inside, span-empty, box-cong, box-le, box-const}
 use Rattle.geometry.proofs.Overlaps.{area-small}
 use Rattle.sweep.specs.declared.Frame.{Frame}
 use Rattle.sweep.specs.Strips.{stripSum, StripOf}
@@ -26,12 +26,17 @@ use Rattle.fill.specs.declared.Failing.the-variants.{Nowhere, At}
 use Rattle.fill.specs.declared.Verdict.{Verdict}
 use Rattle.fill.specs.declared.Verdict.the-variants.{Broken}
 use Rattle.fill.specs.Eligible.{tile, fillableArea}
-use Rattle.fill.specs.Judge.{TileBox, numberAt, load, standardTiles, bloatedTiles, shrunkTiles, failingAt, startsAcross, standardFailing, marginFailing, judged, verdictOf}
-use Rattle.fill.specs.Windows.{ruleOf, loadOf, loadAlong, tilesForUpper, tilesForLower, failingBy, searchBy, allTiles, Loads, Filled}
+use Rattle.fill.specs.Judge.{TileBox, numberAt, load, standardTiles, bloatedTiles, shrunkTiles, failingAt, startsAcross, standardFailing, marginFailing, judged}
+use Rattle.fill.specs.Windows.{ruleOf, loadOf, loadAlong, tilesForUpper, tilesForLower, failingBy, searchBy, tilesBefore, Loads, TilesInLayout, IsStart, Filled}
 use Rattle.fill.specs.Sizes.{mostAcross, tilesRoom, topBound, Tiled, RowTiled}
 use Rattle.fill.proofs.Grown.{fillable-small}
 use Rattle.fill.proofs.Starts.{rows-cong}
+use Rattle.fill.proofs.Windows.{upper-inside, lower-inside}
 use Rattle.fill.proofs.Cutting.{same-box}
+
+-- tile (i, j) has a place in a table with a number for each tile
+pub place-within : (across i j m : ℕ) → i < across → j < across → across * across ≤ m → j * across + i < m
+place-within across i j m h k l = omega (arith, digits-lt {q = j} {m = across} {r = i} {c = across} k h)
 
 -- ---- a table that is filled, tile by tile and row by row
 
@@ -140,7 +145,7 @@ module _ (lows highs amounts : List ℕ) (plan : Plan) (j i : ℕ) (z : RowTiled
   tile-upright = record { order = tile-end (plan .side) i; small = tile-right }
 
   pub place-inside : j * plan .across + i < plan .across * plan .across
-  place-inside = omega (arith, mul-le-mul-right {m = suc j} {n = plan .across} (plan .across) (z .row), suc-mul j (plan .across))
+  place-inside = place-within (plan .across) i j (plan .across * plan .across) h (z .row) (omega arith)
 
   pub place-small : j * plan .across + i < tilesRoom
   place-small = omega (arith, place-inside, mul-le-mul (z .few) (z .few))
@@ -172,60 +177,80 @@ module _ (rects amounts : List ℕ) (plan : Plan) (before table : List ℕ)
 
   table-load : (i j : ℕ) → i < across → j < across → numberAt table across i j ≡ loads i j
   table-load i j h k =
-      s .set (j * across + i) (omega arith) (digits-lt {q = j} {m = across} {r = i} {c = across} k h)
+      s .set (j * across + i) (omega arith) (place-within across i j (across * across) h k (omega arith))
       ∙ ap₂ loads (digits-mod j {m = across} {r = i} h) (digits-div j {m = across} {r = i} h)
 
   pub table-light : Tiled rects amounts plan → across * across ≤ length before → Loads table across
   table-light t h =
       record {
-        few = t .few;
-        full = omega (arith, s .size);
+        tiles = record { few = t .few; full = omega (arith, s .size) };
         light =
             omega (
               arith,
-              box-le (allTiles across) (numberAt table across) (λ x y. 2 * (plan .side * plan .side)) (λ x y i. small x y i),
-              box-const (allTiles across) (2 * (plan .side * plan .side)) ∙ ap (λ (v : ℕ). v * (v * (2 * (plan .side * plan .side)))) (sub-zero across),
+              box-le (tilesBefore across across) (numberAt table across) (λ x y. 2 * (plan .side * plan .side)) (λ x y i. small x y i),
+              box-const (tilesBefore across across) (2 * (plan .side * plan .side)) ∙ ap (λ (v : ℕ). v * (v * (2 * (plan .side * plan .side)))) (sub-zero across),
               mul-le-mul (t .layout) (t .layout),
             );
       }
     where
-      small : (x y : ℕ) → Inside (allTiles across) x y → numberAt table across x y ≤ 2 * (plan .side * plan .side)
+      small : (x y : ℕ) → Inside (tilesBefore across across) x y → numberAt table across x y ≤ 2 * (plan .side * plan .side)
       small x y i = omega (arith, table-load x y (i .right) (i .high), tile-small (rectsOf rects) (plan .side) x y, t .room (y * across + x))
 
-  -- ---- the search over the table, and the verdict's definition
+  pub box-load : (b : TileBox) → TilesInLayout across b → boxSum b (numberAt table across) ≡ boxSum b loads
+  box-load b h = box-cong b (numberAt table across) loads (λ x y i. table-load x y (omega arith) (omega arith))
 
-  box-load : (b : TileBox) → b .x2 ≤ across → b .y2 ≤ across → boxSum b (numberAt table across) ≡ boxSum b loads
-  box-load b h k = box-cong b (numberAt table across) loads (λ x y i. table-load x y (omega arith) (omega arith))
+-- ---- the search by the load of a box, and the verdict's definition
 
-  start-same : (margin i j : ℕ) (a b : TileBox) → tilesForUpper (ruleOf plan) margin i j ≡ a → tilesForLower (ruleOf plan) margin i j ≡ b →
-      i + plan .cut ≤ across → j + plan .cut ≤ across → failingBy (numberAt table across) (ruleOf plan) margin i j ≡ failingAt plan i j (boxSum a loads) (boxSum b loads)
-  start-same margin i j a b e f h k =
+-- a shrunk window of no tiles sums to nothing, wherever it is taken to begin
+shrunk-sum : (plan : Plan) (i j : ℕ) (f : ℕ → ℕ → ℕ) → boxSum (tilesForLower (ruleOf plan) 1 i j) f ≡ boxSum (shrunkTiles plan i j) f
+shrunk-sum plan i j f = go (le-or-lt 1 (plan .cut))
+  where
+    go : (1 ≤ plan .cut) ⊎ (plan .cut < 1) → boxSum (tilesForLower (ruleOf plan) 1 i j) f ≡ boxSum (shrunkTiles plan i j) f
+    go (inl h) = ap (λ (b : TileBox). boxSum b f) (same-box (omega arith) (omega arith) refl refl)
+    go (inr h) =
+        span-empty (min (j + 1) (j + plan .cut)) (j + plan .cut) (λ y. span (min (i + 1) (i + plan .cut)) (i + plan .cut) (λ x. f x y)) (omega arith)
+        ∙ sym (span-empty (suc j) (j + plan .cut) (λ y. span (suc i) (i + plan .cut) (λ x. f x y)) (omega arith))
+
+module _ (loads : ℕ → ℕ → ℕ) (plan : Plan) (total : TileBox → ℕ) (same : (b : TileBox) → TilesInLayout (plan .across) b → total b ≡ boxSum b loads) where
+  start-same : (margin i j : ℕ) (a b : TileBox) → boxSum (tilesForUpper (ruleOf plan) margin i j) loads ≡ boxSum a loads →
+      boxSum (tilesForLower (ruleOf plan) margin i j) loads ≡ boxSum b loads → IsStart (ruleOf plan) margin i j →
+      failingBy total (ruleOf plan) margin i j ≡ failingAt plan i j (boxSum a loads) (boxSum b loads)
+  start-same margin i j a b e f s =
       ap₂ (failingAt plan i j)
-      (box-load (tilesForUpper (ruleOf plan) margin i j) (omega arith) (omega arith) ∙ ap (λ (q : TileBox). boxSum q loads) e)
-      (box-load (tilesForLower (ruleOf plan) margin i j) h k ∙ ap (λ (q : TileBox). boxSum q loads) f)
+      (same (tilesForUpper (ruleOf plan) margin i j) (upper-inside (ruleOf plan) margin i j _ refl s) ∙ e)
+      (same (tilesForLower (ruleOf plan) margin i j) (lower-inside (ruleOf plan) margin i j _ refl s) ∙ f)
 
-  whole : (i : ℕ) → i + plan .cut ≤ across → min (i + plan .cut + 0) across ≡ i + plan .cut
-  whole i h = omega arith
-
-  more : (i : ℕ) → min (i + plan .cut + 1) across ≡ min (suc (i + plan .cut)) across
-  more i = ap (λ (k : ℕ). min k across) (add-one (i + plan .cut))
-
-  pub table-verdict : plan .cut ≤ across →
-      judged (searchBy (numberAt table across) (ruleOf plan) 0) (searchBy (numberAt table across) (ruleOf plan) 1) ≡ verdictOf (rectsOf rects) amounts plan
+  pub search-verdict : plan .across ≤ mostAcross → plan .cut ≤ plan .across →
+      judged (searchBy total (ruleOf plan) 0) (searchBy total (ruleOf plan) 1) ≡ judged (standardFailing loads plan) (marginFailing loads plan)
   unfolding standardFailing marginFailing
-  table-verdict h =
+  search-verdict few h =
       ap₂ judged
-      (rows-cong (failingBy (numberAt table across) (ruleOf plan) 0)
+      (rows-cong (failingBy total (ruleOf plan) 0)
       (λ i j. let s = boxSum (standardTiles plan i j) loads in failingAt plan i j s s) (startsAcross plan) (startsAcross plan)
       (λ i j p q.
-      start-same 0 i j (standardTiles plan i j) (standardTiles plan i j)
-      (same-box refl refl (whole i (omega arith)) (whole j (omega arith))) (same-box (add-zero i) (add-zero j) refl refl) (omega arith) (omega arith)))
-      (rows-cong (failingBy (numberAt table across) (ruleOf plan) 1)
+      start-same 0 i j (standardTiles plan i j) (standardTiles plan i j) (ap sum-of (same-box refl refl (whole i (omega arith)) (whole j (omega arith))))
+      (ap sum-of (same-box (first i) (first j) refl refl)) (start 0 i j (omega arith) (omega arith) (omega arith))))
+      (rows-cong (failingBy total (ruleOf plan) 1)
       (λ i j. failingAt plan i j (boxSum (bloatedTiles plan i j) loads) (boxSum (shrunkTiles plan i j) loads))
       (startsAcross plan) (startsAcross plan)
       (λ i j p q.
-      start-same 1 i j (bloatedTiles plan i j) (shrunkTiles plan i j) (same-box refl refl (more i) (more j))
-      (same-box (add-one i) (add-one j) refl refl) (omega arith) (omega arith)))
+      start-same 1 i j (bloatedTiles plan i j) (shrunkTiles plan i j) (ap sum-of (same-box refl refl (more i) (more j))) (shrunk-sum plan i j loads)
+      (start 1 i j (omega arith) (omega arith) (omega arith))))
+    where
+      sum-of : TileBox → ℕ
+      sum-of b = boxSum b loads
+
+      start : (margin i j : ℕ) → margin ≤ 1 → i + plan .cut ≤ plan .across → j + plan .cut ≤ plan .across → IsStart (ruleOf plan) margin i j
+      start margin i j t p q = record { few = few; thin = t; columns = p; rows = q }
+
+      first : (i : ℕ) → min (i + 0) (i + plan .cut) ≡ i
+      first i = omega arith
+
+      whole : (i : ℕ) → i + plan .cut ≤ plan .across → min (i + plan .cut + 0) (plan .across) ≡ i + plan .cut
+      whole i h = omega arith
+
+      more : (i : ℕ) → min (i + plan .cut + 1) (plan .across) ≡ min (suc (i + plan .cut)) (plan .across)
+      more i = ap (λ (k : ℕ). min k (plan .across)) (add-one (i + plan .cut))
 
 -- ---- 64 bits
 

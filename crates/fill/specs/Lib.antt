@@ -4,4 +4,5 @@ pub mod Placement
 pub mod Sizes
 pub mod Free
 pub mod Windows
+pub mod Corners
 pub mod Cases

@@ -42,7 +42,8 @@ tilesForUpper rule margin i j =
     record { x1 = i; y1 = j; x2 = min (i + rule .cut + margin) (rule .across); y2 = min (j + rule .cut + margin) (rule .across) }
 
 abbrev pub tilesForLower : Rule → (margin i j : ℕ) → TileBox
-tilesForLower rule margin i j = record { x1 = i + margin; y1 = j + margin; x2 = i + rule .cut; y2 = j + rule .cut }
+tilesForLower rule margin i j =
+    record { x1 = min (i + margin) (i + rule .cut); y1 = min (j + margin) (j + rule .cut); x2 = i + rule .cut; y2 = j + rule .cut }
 
 -- the bound that a start fails, U before L, by the sums that U and L are judged by
 abbrev pub failingWithin : Rule → (i j forUpper forLower : ℕ) → Failing
@@ -52,37 +53,35 @@ failingWithin rule i j forUpper forLower =
       | true ↦ elim (leb (rule .low) (10000 * forLower)) [ false ↦ At Under i j | true ↦ Nowhere ]
     ]
 
-abbrev pub failingBy : (load : ℕ → ℕ → ℕ) → Rule → (margin i j : ℕ) → Failing
-failingBy load rule margin i j =
-    failingWithin rule i j (boxSum (tilesForUpper rule margin i j) load) (boxSum (tilesForLower rule margin i j) load)
+-- the same by the loads of boxes of tiles
+abbrev pub failingBy : (total : TileBox → ℕ) → Rule → (margin i j : ℕ) → Failing
+failingBy total rule margin i j = failingWithin rule i j (total (tilesForUpper rule margin i j)) (total (tilesForLower rule margin i j))
 
-abbrev pub searchBy : (load : ℕ → ℕ → ℕ) → Rule → (margin : ℕ) → Failing
-searchBy load rule margin = failingInRows (failingBy load rule margin) (suc (rule .across - rule .cut)) (suc (rule .across - rule .cut))
+abbrev pub searchBy : (total : TileBox → ℕ) → Rule → (margin : ℕ) → Failing
+searchBy total rule margin = failingInRows (failingBy total rule margin) (suc (rule .across - rule .cut)) (suc (rule .across - rule .cut))
 
 abbrev pub isFound : Failing → Bool
 isFound Nowhere = false
 isFound (At b i j) = true
 
--- all tiles of the layout
-abbrev pub allTiles : ℕ → TileBox
-allTiles across = record { x1 = 0; y1 = 0; x2 = across; y2 = across }
+-- the tiles left of column x and below row y
+abbrev pub tilesBefore : (x y : ℕ) → TileBox
+tilesBefore x y = record { x1 = 0; y1 = 0; x2 = x; y2 = y }
 
--- a table of loads, `across` to a row: 10,000 times its whole load fits 64 bits
-pub record Loads (table : List ℕ) (across : ℕ) : Type 0 where
+-- a table with a number for each tile, `across` to a row
+pub record TileTable (table : List ℕ) (across : ℕ) : Type 0 where
   pub few : across ≤ mostAcross
   pub full : across * across ≤ length table
-  pub light : boxSum (allTiles across) (numberAt table across) ≤ heaviest
 
--- a tile of the layout; the columns before one of a row; a box of tiles
-pub record IsTile (across i j : ℕ) : Type 0 where
-  pub column : i < across
-  pub row : j < across
+-- such a table of loads: 10,000 times the load of all tiles fits 64 bits
+pub record Loads (table : List ℕ) (across : ℕ) : Type 0 where
+  pub tiles : TileTable table across
+  pub light : boxSum (tilesBefore across across) (numberAt table across) ≤ heaviest
 
-pub record InRow (across j x2 : ℕ) : Type 0 where
-  pub columns : x2 ≤ across
-  pub row : j < across
-
+-- a box of tiles of the layout
 pub record TilesInLayout (across : ℕ) (b : TileBox) : Type 0 where
+  pub columns : b .x1 ≤ b .x2
+  pub rows : b .y1 ≤ b .y2
   pub right : b .x2 ≤ across
   pub high : b .y2 ≤ across
 

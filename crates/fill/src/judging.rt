@@ -1,64 +1,25 @@
-// Sums over windows of tiles, and the first start that fails a bound.
+// The windows of tiles at a start, and the first start that fails a bound.
 use crate::Bound;
 use crate::Failing;
 use crate::Verdict;
+use crate::corners::tiles_load;
 use geometry::Rect;
 use geometry::smaller;
 ghost use Prim.Native.Nat.{suc, _-_, _≤_};
 ghost use mathlib.Core.Path.{_≡_};
-ghost use Rattle.geometry.specs.Count.{span, boxSum};
 ghost use Rattle.fill.specs.declared.Failing.the-variants.{Nowhere};
 ghost use Rattle.fill.specs.Sizes.{heaviest};
-ghost use Rattle.fill.specs.Judge.{numberAt, failingInRow, judged};
-ghost use Rattle.fill.specs.Windows.{tilesForUpper, tilesForLower, failingWithin, failingBy, searchBy, isFound, Loads, IsTile, InRow, TilesInLayout, IsStart};
+ghost use Rattle.fill.specs.Judge.{failingInRow, judged};
+ghost use Rattle.fill.specs.Windows.{tilesForUpper, tilesForLower, failingWithin, failingBy, searchBy, isFound, IsStart};
+ghost use Rattle.fill.specs.Corners.{cornerTotal, CornerSums};
 
-// What a table of loads is judged by: the tiles across the layout and across a
+// What the loads of tiles are judged by: the tiles across the layout and across a
 // window, and 10,000 times the least and the greatest load of a window.
 pub(crate) struct Rule {
     pub across: u64,
     pub cut: u64,
     pub low: u64,
     pub high: u64,
-}
-
-// The load of tile (i, j).
-fn load_of(loads: &[u64], across: u64, i: u64, j: u64) -> u64
-    requires { ⌜ IsTile across i j ⌝ }
-    requires { ⌜ Loads (now loads) across ⌝ }
-    ensures { λ r. ⌜ r ≡ numberAt (now (loads .entry)) across i j ⌝ }
-{
-    let at = j * across + i;
-    loads[at as usize]
-}
-
-// The load of the columns x1 to x2 of row j.
-fn row_load(loads: &[u64], across: u64, j: u64, x1: u64, x2: u64) -> u64
-    requires { ⌜ InRow across j x2 ⌝ }
-    requires { ⌜ Loads (now loads) across ⌝ }
-    ensures { λ r. ⌜ r ≡ span x1 x2 (λ i. numberAt (now (loads .entry)) across i j) ⌝ }
-{
-    let mut total: u64 = 0;
-    let mut i = x1;
-    while i < x2 {
-        total += load_of(loads, across, i, j);
-        i += 1;
-    }
-    total
-}
-
-// The load of a box of tiles, which counts in tiles.
-fn tiles_load(loads: &[u64], across: u64, b: Rect) -> u64
-    requires { ⌜ TilesInLayout across b ⌝ }
-    requires { ⌜ Loads (now loads) across ⌝ }
-    ensures { λ r. ⌜ r ≡ boxSum b (numberAt (now (loads .entry)) across) ⌝ }
-{
-    let mut total: u64 = 0;
-    let mut j = b.y1;
-    while j < b.y2 {
-        total += row_load(loads, across, j, b.x1, b.x2);
-        j += 1;
-    }
-    total
 }
 
 // The tiles whose load the upper bound is held to, a box that counts in tiles:
@@ -76,14 +37,15 @@ fn tiles_for_upper(rule: Rule, margin: u64, i: u64, j: u64) -> Rect
 }
 
 // The tiles whose load the lower bound is held to, a box that counts in tiles:
-// those of the window at a start, less the first `margin`.
+// those of the window at a start, less the first `margin`, if it has so many: a
+// box never ends before it begins.
 fn tiles_for_lower(rule: Rule, margin: u64, i: u64, j: u64) -> Rect
     requires { ⌜ IsStart rule margin i j ⌝ }
     ensures { λ b. ⌜ b ≡ tilesForLower rule margin i j ⌝ }
 {
     Rect {
-        x1: i + margin,
-        y1: j + margin,
+        x1: smaller(i + margin, i + rule.cut),
+        y1: smaller(j + margin, j + rule.cut),
         x2: i + rule.cut,
         y2: j + rule.cut,
     }
@@ -105,13 +67,13 @@ fn failed(rule: Rule, i: u64, j: u64, outer: u64, inner: u64) -> Failing
 }
 
 // The bound that the windows of a start fail.
-fn failing_at(loads: &[u64], rule: Rule, margin: u64, i: u64, j: u64) -> Failing
-    requires { ⌜ Loads (now loads) (rule .across) ⌝ }
+fn failing_at(sums: &[u64], rule: Rule, margin: u64, i: u64, j: u64) -> Failing
+    requires { ⌜ CornerSums (now sums) (rule .across) ⌝ }
     requires { ⌜ IsStart rule margin i j ⌝ }
-    ensures { λ f. ⌜ f ≡ failingBy (numberAt (now (loads .entry)) (rule .across)) rule margin i j ⌝ }
+    ensures { λ f. ⌜ f ≡ failingBy (cornerTotal (now (sums .entry)) (rule .across)) rule margin i j ⌝ }
 {
-    let outer = tiles_load(loads, rule.across, tiles_for_upper(rule, margin, i, j));
-    let inner = tiles_load(loads, rule.across, tiles_for_lower(rule, margin, i, j));
+    let outer = tiles_load(sums, rule.across, tiles_for_upper(rule, margin, i, j));
+    let inner = tiles_load(sums, rule.across, tiles_for_lower(rule, margin, i, j));
     failed(rule, i, j, outer, inner)
 }
 
@@ -125,15 +87,15 @@ fn is_found(f: Failing) -> bool
 }
 
 // The first failing start of a row.
-fn failing_in_row(loads: &[u64], rule: Rule, margin: u64, j: u64) -> Failing
-    requires { ⌜ Loads (now loads) (rule .across) ⌝ }
+fn failing_in_row(sums: &[u64], rule: Rule, margin: u64, j: u64) -> Failing
+    requires { ⌜ CornerSums (now sums) (rule .across) ⌝ }
     requires { ⌜ IsStart rule margin 0 j ⌝ }
-    ensures { λ f. ⌜ f ≡ failingInRow (failingBy (numberAt (now (loads .entry)) (rule .across)) rule margin) j (suc (rule .across - rule .cut)) ⌝ }
+    ensures { λ f. ⌜ f ≡ failingInRow (failingBy (cornerTotal (now (sums .entry)) (rule .across)) rule margin) j (suc (rule .across - rule .cut)) ⌝ }
 {
     let last = rule.across - rule.cut;
     let mut i: u64 = 0;
     while i <= last {
-        let f = failing_at(loads, rule, margin, i, j);
+        let f = failing_at(sums, rule, margin, i, j);
         if is_found(f) {
             return f;
         }
@@ -143,15 +105,15 @@ fn failing_in_row(loads: &[u64], rule: Rule, margin: u64, j: u64) -> Failing
 }
 
 // The first failing start, rows in order, in a row columns in order.
-fn first_failing(loads: &[u64], rule: Rule, margin: u64) -> Failing
-    requires { ⌜ Loads (now loads) (rule .across) ⌝ }
+fn first_failing(sums: &[u64], rule: Rule, margin: u64) -> Failing
+    requires { ⌜ CornerSums (now sums) (rule .across) ⌝ }
     requires { ⌜ IsStart rule margin 0 0 ⌝ }
-    ensures { λ f. ⌜ f ≡ searchBy (numberAt (now (loads .entry)) (rule .across)) rule margin ⌝ }
+    ensures { λ f. ⌜ f ≡ searchBy (cornerTotal (now (sums .entry)) (rule .across)) rule margin ⌝ }
 {
     let last = rule.across - rule.cut;
     let mut j: u64 = 0;
     while j <= last {
-        let f = failing_in_row(loads, rule, margin, j);
+        let f = failing_in_row(sums, rule, margin, j);
         if is_found(f) {
             return f;
         }
@@ -170,15 +132,15 @@ fn unbroken(margin: Failing) -> Verdict
     }
 }
 
-// The verdict on a table of loads.
-pub(crate) fn judge_loads(loads: &[u64], rule: Rule) -> Verdict
-    requires { ⌜ Loads (now loads) (rule .across) ⌝ }
+// The verdict on the loads of all tiles, by their corner sums.
+pub(crate) fn judge_sums(sums: &[u64], rule: Rule) -> Verdict
+    requires { ⌜ CornerSums (now sums) (rule .across) ⌝ }
     requires { ⌜ rule .cut ≤ rule .across ⌝ }
-    ensures { λ v. ⌜ v ≡ judged (searchBy (numberAt (now (loads .entry)) (rule .across)) rule 0) (searchBy (numberAt (now (loads .entry)) (rule .across)) rule 1) ⌝ }
+    ensures { λ v. ⌜ v ≡ judged (searchBy (cornerTotal (now (sums .entry)) (rule .across)) rule 0) (searchBy (cornerTotal (now (sums .entry)) (rule .across)) rule 1) ⌝ }
 {
-    let standard = first_failing(loads, rule, 0);
+    let standard = first_failing(sums, rule, 0);
     match standard {
         Failing::At(b, i, j) => Verdict::Broken(b, i, j),
-        Failing::Nowhere => unbroken(first_failing(loads, rule, 1)),
+        Failing::Nowhere => unbroken(first_failing(sums, rule, 1)),
     }
 }

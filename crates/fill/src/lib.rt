@@ -11,6 +11,7 @@ ghost use Rattle.fill.specs.Free.{Serves};
 ghost use Rattle.fill.specs.Judge.{verdictOf};
 ghost use Rattle.fill.specs.Sizes.{SmallBox, Planned};
 
+mod corners;
 mod free;
 mod judging;
 mod tiling;
@@ -99,7 +100,8 @@ pub fn judge(rects: &[u64], order: &[usize], amounts: &[u64], plan: Plan) -> Ver
 {
     let mut table = [0u64; TILES_ROOM];
     tiling::set_loads(rects, order, amounts, plan, &mut table);
-    judging::judge_loads(
+    corners::sum_rows(plan.across, &mut table);
+    judging::judge_sums(
         &table,
         judging::Rule {
             across: plan.across,

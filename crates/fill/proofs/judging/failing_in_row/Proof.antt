@@ -5,18 +5,18 @@ use mathlib.Core.Path.{_∙_, sym}
 use native.Mathlib.Omega.{arith}
 use borrow.Author.Needs.{needs}
 use Rattle.fill.specs.Windows.{failingBy}
-use Rattle.fill.specs.Judge.{numberAt}
+use Rattle.fill.specs.Corners.{cornerTotal}
 use Rattle.fill.proofs.Starts.{row-first}
 use Rattle.fill.proofs.Windows.{Searched, search-start, search-next, search-found, search-end}
 use Rattle.fill.proofs.judging.failing_in_row.Statement.{statement}
 use Rattle.fill.proofs.judging.failing_in_row.Tie as tie
 
 abbrev Inv-loop : tie.InvT-loop
-Inv-loop loads rule margin j last i₀ i =
-    Searched (λ x. failingBy (numberAt loads (rule .across)) rule margin x j) last i
+Inv-loop sums rule margin j last i₀ i =
+    Searched (λ x. failingBy (cornerTotal sums (rule .across)) rule margin x j) last i
 
 abbrev μ-loop : tie.MeasureT-loop
-μ-loop loads rule margin j last i₀ i = last + 1 - i
+μ-loop sums rule margin j last i₀ i = last + 1 - i
 
 returns : tie.Need-returns Inv-loop μ-loop
 returns c =

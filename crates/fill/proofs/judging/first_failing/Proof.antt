@@ -4,19 +4,20 @@ use Prim.Native.Nat.{suc, _+_, _-_}
 use mathlib.Core.Path.{_∙_, sym}
 use native.Mathlib.Omega.{arith}
 use borrow.Author.Needs.{needs}
-use Rattle.fill.specs.Judge.{numberAt, failingInRow}
+use Rattle.fill.specs.Judge.{failingInRow}
 use Rattle.fill.specs.Windows.{failingBy}
+use Rattle.fill.specs.Corners.{cornerTotal}
 use Rattle.fill.proofs.Starts.{rows-first}
 use Rattle.fill.proofs.Windows.{Searched, search-start, search-next, search-found, search-end}
 use Rattle.fill.proofs.judging.first_failing.Statement.{statement}
 use Rattle.fill.proofs.judging.first_failing.Tie as tie
 
 abbrev Inv-loop : tie.InvT-loop
-Inv-loop loads rule margin last j₀ j =
-    Searched (λ y. failingInRow (failingBy (numberAt loads (rule .across)) rule margin) y (suc (rule .across - rule .cut))) last j
+Inv-loop sums rule margin last j₀ j =
+    Searched (λ y. failingInRow (failingBy (cornerTotal sums (rule .across)) rule margin) y (suc (rule .across - rule .cut))) last j
 
 abbrev μ-loop : tie.MeasureT-loop
-μ-loop loads rule margin last j₀ j = last + 1 - j
+μ-loop sums rule margin last j₀ j = last + 1 - j
 
 returns : tie.Need-returns Inv-loop μ-loop
 returns c =
