@@ -1,9 +1,15 @@
 //! The proved library through its C entries, beside the second implementation.
 
+pub mod earlier;
 pub mod plain;
 pub mod timing;
 
 use reference::answer::{Reply, ANSWER_ROOM};
+
+/// File, its length, buffer and its length.
+type AnswerEntry = unsafe extern "C" fn(*const u8, usize, *mut u8, usize) -> u64;
+/// File, its length and the phase.
+type PhaseEntry = unsafe extern "C" fn(*const u8, usize, u64) -> u64;
 
 mod entries {
     extern "C" {
@@ -17,49 +23,70 @@ mod entries {
     }
 }
 
+/// A state of the proved library, by its entries.
+#[derive(Clone, Copy)]
+pub struct Library {
+    answer: AnswerEntry,
+    phase: PhaseEntry,
+}
+
+/// The state that is linked.
+pub const LINKED: Library = Library {
+    answer: entries::density_answer,
+    phase: entries::density_phase,
+};
+
 /// The library's one number is this many times the fault's number, 0 for none,
 /// plus the answer's length or the fault's line.
 const FACTOR: u64 = 100_000;
 
-/// The proved unit's answer into a lent buffer.
-pub fn answer(file: &[u8], out: &mut [u8]) -> Reply {
-    // SAFETY: both are slices for the time of the call, and the function has no
-    // condition of its own.
-    let code =
-        unsafe { entries::density_answer(file.as_ptr(), file.len(), out.as_mut_ptr(), out.len()) };
-    let (number, value) = (code / FACTOR, code % FACTOR);
-    if number == 0 {
-        Reply::Accepted(value as usize)
-    } else {
-        Reply::Refused {
-            number: number as u32,
-            line: value as u32,
+impl Library {
+    /// The proved unit's answer into a lent buffer.
+    pub fn answer(&self, file: &[u8], out: &mut [u8]) -> Reply {
+        // SAFETY: both are slices for the time of the call, and the function has
+        // no condition of its own.
+        let code = unsafe { (self.answer)(file.as_ptr(), file.len(), out.as_mut_ptr(), out.len()) };
+        let (number, value) = (code / FACTOR, code % FACTOR);
+        if number == 0 {
+            Reply::Accepted(value as usize)
+        } else {
+            Reply::Refused {
+                number: number as u32,
+                line: value as u32,
+            }
         }
     }
-}
 
-/// Reads a job and runs one phase, for the benchmark: 1 is the exact run, which
-/// gives the greatest area; 2 the exact run and the quick run for the greatest,
-/// which gives the ceiling; 3 the exact run and the quick run for the least,
-/// which gives the low end; 4 the verdict; 0 reads only.
-pub fn phase(file: &[u8], phase: u64) -> u64 {
-    // SAFETY: as for `answer`.
-    unsafe { entries::density_phase(file.as_ptr(), file.len(), phase) }
+    /// Reads a job and runs one phase, for the benchmark: 1 is the exact run,
+    /// which gives the greatest area; 2 the exact run and the quick run for the
+    /// greatest, which gives the ceiling; 3 the exact run and the quick run for
+    /// the least, which gives the low end; 4 the verdict; 0 reads only.
+    pub fn phase(&self, file: &[u8], phase: u64) -> u64 {
+        // SAFETY: as for `answer`.
+        unsafe { (self.phase)(file.as_ptr(), file.len(), phase) }
+    }
 }
 
 /// The byte that buffers hold before a call: no answer has it.
 const UNTOUCHED: u8 = 0xa5;
 
+/// The reply of an implementation, and its buffer of that length afterwards.
+pub fn answered(
+    answer: impl Fn(&[u8], &mut [u8]) -> Reply,
+    file: &[u8],
+    room: usize,
+) -> (Reply, Vec<u8>) {
+    let mut out = vec![UNTOUCHED; room];
+    (answer(file, &mut out), out)
+}
+
 /// Holds both implementations to the same reply and the same bytes, for one
 /// job and one length of buffer.
 fn compare_with_room(file: &[u8], room: usize) -> Reply {
-    let mut proved = vec![UNTOUCHED; room];
-    let mut second = vec![UNTOUCHED; room];
-    let reply = answer(file, &mut proved);
-    let expected = reference::answer::answer(file, &mut second);
-    assert_eq!(reply, expected, "room {room}: {}", shown(file));
+    let proved = answered(|file, out| LINKED.answer(file, out), file, room);
+    let second = answered(reference::answer::answer, file, room);
     assert_eq!(proved, second, "room {room}: {}", shown(file));
-    reply
+    proved.0
 }
 
 /// The same for buffers of no length, one byte short, exact and longer. The

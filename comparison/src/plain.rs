@@ -105,7 +105,7 @@ fn common([low, high]: Sides, [other_low, other_high]: Sides) -> u64 {
 #[cfg(test)]
 mod tests {
     use super::*;
-    use crate::{on_large_stack, phase};
+    use crate::{on_large_stack, LINKED};
     use reference::fast;
     use reference::generate::{large_jobs, small_job, Random};
 
@@ -117,7 +117,7 @@ mod tests {
         let shown = String::from_utf8_lossy(file);
         assert_eq!(summing_strips(&job), areas, "{shown}");
         assert_eq!(summing_all(&job), areas, "{shown}");
-        assert_eq!(phase(file, 1), exact.max.area, "{shown}");
+        assert_eq!(LINKED.phase(file, 1), exact.max.area, "{shown}");
     }
 
     #[test]

@@ -7,6 +7,11 @@ use std::time::Instant;
 pub struct Sample(Vec<f64>);
 
 impl Sample {
+    fn new(mut times: Vec<f64>) -> Sample {
+        times.sort_unstable_by(f64::total_cmp);
+        Sample(times)
+    }
+
     pub fn least(&self) -> f64 {
         self.0[0]
     }
@@ -17,18 +22,17 @@ impl Sample {
 }
 
 /// Times each task once in every round, so that a busy moment of the machine
-/// falls on all of them.
-pub fn in_turn<T, const K: usize>(rounds: usize, tasks: [impl Fn() -> T; K]) -> [Sample; K] {
-    let mut times = std::array::from_fn::<_, K, _>(|_| Vec::new());
+/// falls on all of them. It runs once more just before, not timed, so that it
+/// does not matter which task the machine was busy with last.
+pub fn in_turn<T>(rounds: usize, tasks: &[impl Fn() -> T]) -> Vec<Sample> {
+    let mut times = vec![Vec::new(); tasks.len()];
     for _ in 0..rounds {
         for (task, times) in tasks.iter().zip(&mut times) {
+            time(task);
             times.push(time(task));
         }
     }
-    times.map(|mut times| {
-        times.sort_unstable_by(f64::total_cmp);
-        Sample(times)
-    })
+    times.into_iter().map(Sample::new).collect()
 }
 
 /// The time of one run. The result is kept from the compiler, which could else

@@ -2,7 +2,7 @@
 //! by their times. A file of its own, so that no other test runs beside it.
 
 use comparison::timing::in_turn;
-use comparison::{on_large_stack, phase, plain};
+use comparison::{on_large_stack, plain, LINKED};
 use reference::fast;
 use reference::generate::{large_jobs, LargeJob};
 use reference::job::Job;
@@ -22,20 +22,24 @@ fn lines_with_sides(job: &Job, axis: usize) -> usize {
     sides.len()
 }
 
+/// The run's time is what reading alone leaves of reading and running. The fill
+/// lines are left out: the run takes none, and reading them takes longer than it.
 fn assert_half_the_time(large: &LargeJob) {
-    let (name, file) = (large.name, &large.job);
-    let job = fast::read(file).expect("large jobs are valid");
+    let (name, file) = (large.name, large.without_fills());
+    let job = fast::read(&file).expect("large jobs are valid");
     assert_eq!(job.rects.len(), 256, "{name}");
     for axis in [0, 1] {
         assert_eq!(lines_with_sides(&job, axis), 2 * job.rects.len(), "{name}");
     }
+    let phase = |number| LINKED.phase(&file, number);
     let [greatest, _] = plain::summing_all(&job);
-    assert_eq!(phase(file, 1), greatest, "{name}");
+    assert_eq!(phase(1), greatest, "{name}");
 
     // Both areas, so that the compiler cannot leave a search out.
     let sum_all = || plain::summing_all(&job).iter().sum();
-    let tasks: [&dyn Fn() -> u64; 3] = [&|| phase(file, 0), &|| phase(file, 1), &sum_all];
-    let [reading, with_run, all] = in_turn(ROUNDS, tasks).map(|sample| sample.median());
+    let tasks: [&dyn Fn() -> u64; 3] = [&|| phase(0), &|| phase(1), &sum_all];
+    let samples = in_turn(ROUNDS, &tasks);
+    let [reading, with_run, all] = [0, 1, 2].map(|task| samples[task].median());
     let run = with_run - reading;
     let shown = format!(
         "{name}: exact run {run:.3} ms ({with_run:.3} less {reading:.3} for reading), \

@@ -187,17 +187,24 @@ fn heaviest_jobs_are_as_heavy_as_can_be() {
         let large = jobs.iter().find(|large| large.name == name).unwrap();
         fast::read(&large.job).unwrap()
     };
+    let filled = |job: &Job| job.fills.iter().filter(|&&amount| amount > 0).count();
     let sides = read("different sides");
     assert_eq!((sides.size, sides.rects.len()), (65_535, 256));
     let starts = read("most starts");
     assert_eq!((starts.tiles(), starts.window % 16), (64, 0));
-    for job in [&sides, &starts] {
+    let wide = read("wide windows");
+    assert_eq!(4 * wide.window, wide.size);
+    for job in [&sides, &starts, &wide] {
         let cover = fast::drawn_cover(job);
         assert!(cover.column_cuts().len() >= 512 && cover.row_cuts().len() >= 512);
     }
     let tiles = read("most tiles");
     assert_eq!(tiles.fills.len(), 4096);
-    assert!(tiles.fills.iter().filter(|&&p| p > 0).count() > 3800);
+    assert!(filled(&tiles) > 3800);
+    let both = read("bars and fills");
+    assert_eq!((both.rects.len(), both.tiles()), (256, 64));
+    assert!(filled(&both) > 3500);
+    assert_eq!(Method::Fast.outcome(&both).verdict, Verdict::Safe);
 }
 
 #[test]
@@ -214,10 +221,14 @@ fn quick_runs_of_the_heaviest_jobs() {
     assert_eq!(ends("most starts"), [(End::Exact, 6), (End::Exact, 6)]);
     assert_eq!(ends("soon met"), [(End::Met, 2), (End::Met, 3)]);
     assert_eq!(ends("windows alike"), [(End::Exact, 6), (End::Exact, 6)]);
+    assert_eq!(ends("bars and fills"), [(End::Exact, 6), (End::Exact, 6)]);
     // The starts on an axis at each level, of which only the last in the last
     // row is ever left out, its bloated window being cut off on both sides.
     for (level, across) in [64, 127, 253, 505, 1009].into_iter().enumerate() {
         let kept = runs("windows alike", level as u64 + 1).map(|quick| quick.kept);
         assert_eq!(kept, [across * across - 1, across * across]);
     }
+    // No start of the last level is passed over, since those before are all kept.
+    let [_, least] = runs("bars and fills", 4);
+    assert_eq!(least.kept, 505 * 505);
 }

@@ -3,15 +3,28 @@
 //! also to plain loops, whose times then stand in the second column.
 //!
 //! The library reads the job for every phase and does the exact run before
-//! either quick one, so a phase is the difference of two times. Every time is the
-//! least of several runs; a dash stands for one that noise hides.
+//! either quick one, so a phase is the difference of two times. These three runs
+//! take no fills; they are timed on the job without its fill lines, since reading
+//! those could hide them. Every time is the least of several runs; a dash stands
+//! for one that noise hides.
+//!
+//! An argument names an earlier state of the library, which is then timed in turn
+//! with the linked one and held to the same answers. It is a shared object, made
+//! in that state's checkout by
+//!
+//! ```text
+//! cc -shared -o earlier.so -Wl,--whole-archive target/staticlib/libunit.a target/staticlib/libphases.a -Wl,--no-whole-archive
+//! ```
 
-use comparison::timing::in_turn;
-use comparison::{on_large_stack, phase, plain};
+use comparison::timing::{in_turn, Sample};
+use comparison::{answered, earlier, on_large_stack, plain, Library, LINKED};
+use reference::answer::{answer, ANSWER_ROOM};
 use reference::fast;
 use reference::generate::{large_jobs, LargeJob};
 use reference::job::Job;
 use reference::sense::Sense;
+use std::iter::once;
+use std::process::ExitCode;
 
 const RUNS: usize = 15;
 
@@ -48,38 +61,71 @@ struct Times {
     /// The quick run for the least.
     least: Milliseconds,
     verdict: Milliseconds,
+    answer: Milliseconds,
 }
 
 /// The least times of several runs, the tasks in turn.
-fn least_times<T, const K: usize>(tasks: [impl Fn() -> T; K]) -> [f64; K] {
-    in_turn(RUNS, tasks).map(|sample| sample.least())
+fn least_times<T>(tasks: &[impl Fn() -> T]) -> Vec<f64> {
+    let samples = in_turn(RUNS, tasks);
+    samples.iter().map(Sample::least).collect()
 }
 
 fn least_time<T>(task: impl Fn() -> T) -> f64 {
-    let [time] = least_times([task]);
-    time
+    least_times(&[task])[0]
 }
 
-fn proved_times(file: &[u8], unfilled_file: &[u8]) -> Times {
-    let tasks = [
-        (unfilled_file, 0),
-        (file, 0),
-        (file, 1),
-        (file, 2),
-        (file, 3),
-        (file, 4),
-    ]
-    .map(|(file, number)| move || phase(file, number));
-    let [unfilled, reading, exact, exact_and_greatest, exact_and_least, verdict] =
-        least_times(tasks);
-    Times {
-        unfilled: above_noise(unfilled),
-        fills: difference(reading, unfilled),
-        reading: above_noise(reading),
-        exact: difference(exact, reading),
-        greatest: difference(exact_and_greatest, exact),
-        least: difference(exact_and_least, exact),
-        verdict: difference(verdict, reading),
+/// A file and what a library does with it: a phase by its number, or all.
+type Task<'a> = (&'a [u8], Option<u64>);
+
+/// How many tasks of a library are timed.
+const TASKS: usize = 7;
+
+fn run(library: Library, (file, phase): Task) {
+    match phase {
+        Some(number) => {
+            library.phase(file, number);
+        }
+        None => {
+            library.answer(file, &mut [0; ANSWER_ROOM]);
+        }
+    }
+}
+
+/// The times of each library, all tasks in turn.
+fn proved_times(libraries: &[Library], file: &[u8], unfilled_file: &[u8]) -> Vec<Times> {
+    let tasks: [Task; TASKS] = [
+        (unfilled_file, Some(0)),
+        (unfilled_file, Some(1)),
+        (unfilled_file, Some(2)),
+        (unfilled_file, Some(3)),
+        (file, Some(0)),
+        (file, Some(4)),
+        (file, None),
+    ];
+    let runs: Vec<_> = libraries
+        .iter()
+        .flat_map(|&library| tasks.map(|task| move || run(library, task)))
+        .collect();
+    let times = least_times(&runs);
+    let (of_each, _) = times.as_chunks::<TASKS>();
+    of_each.iter().map(Times::of_library).collect()
+}
+
+impl Times {
+    /// From the times of a library's tasks.
+    fn of_library(times: &[f64; TASKS]) -> Times {
+        let &[unfilled, exact, exact_and_greatest, exact_and_least, reading, verdict, answer] =
+            times;
+        Times {
+            unfilled: above_noise(unfilled),
+            fills: difference(reading, unfilled),
+            reading: above_noise(reading),
+            exact: difference(exact, unfilled),
+            greatest: difference(exact_and_greatest, exact),
+            least: difference(exact_and_least, exact),
+            verdict: difference(verdict, reading),
+            answer: above_noise(answer),
+        }
     }
 }
 
@@ -100,16 +146,21 @@ fn second_times(file: &[u8], unfilled_file: &[u8], job: &Job) -> Times {
         greatest: above_noise(quick(Sense::Greatest)),
         least: above_noise(quick(Sense::Least)),
         verdict: above_noise(least_time(|| fast::verdict(job, &cover))),
+        answer: above_noise(least_time(|| answer(file, &mut [0; ANSWER_ROOM]))),
     }
 }
 
-/// The job without its fill lines.
-fn without_fills(file: &[u8]) -> Vec<u8> {
-    file.split_inclusive(|&byte| byte == b'\n')
-        .filter(|line| !line.starts_with(b"(fill"))
-        .flatten()
-        .copied()
-        .collect()
+/// Holds the libraries to one answer, and to one number for each phase.
+fn assert_same(libraries: &[Library], large: &LargeJob) {
+    let (name, file) = (large.name, &large.job);
+    for earlier in &libraries[1..] {
+        let [now, before] = [&LINKED, earlier].map(|library| {
+            let phases = [1, 2, 3, 4].map(|number| library.phase(file, number));
+            let answer = |file: &[u8], out: &mut [u8]| library.answer(file, out);
+            (phases, answered(answer, file, ANSWER_ROOM))
+        });
+        assert_eq!(now, before, "{name}: now and before");
+    }
 }
 
 /// A number with so many digits behind the point, or a dash.
@@ -117,13 +168,28 @@ fn shown(number: Option<f64>, digits: usize) -> String {
     number.map_or("-".to_string(), |number| format!("{number:.digits$}"))
 }
 
-fn print_row(name: &str, proved: Milliseconds, second: Milliseconds) {
-    println!(
-        "  {name:28} {:>10} {:>10} {:>8}",
-        shown(proved, 3),
-        shown(second, 3),
-        shown(ratio(proved, second), 2)
-    );
+/// The proved library's time, and others with their ratios.
+fn print_row(name: &str, proved: Milliseconds, others: &[Milliseconds]) {
+    print!("  {name:28} {:>10}", shown(proved, 3));
+    for &other in others {
+        print!(
+            " {:>10} {:>12}",
+            shown(other, 3),
+            shown(ratio(proved, other), 2)
+        );
+    }
+    println!();
+}
+
+/// The columns of a table's other times, and of the ratios to them.
+const OTHERS: [[&str; 2]; 2] = [["second ms", "ratio"], ["before ms", "now / before"]];
+
+fn print_header(others: usize) {
+    print!("  {:28} {:>10}", "phase", "proved ms");
+    for [time, ratio] in &OTHERS[..others] {
+        print!(" {time:>10} {ratio:>12}");
+    }
+    println!();
 }
 
 fn print_ratio(name: &str, time: Milliseconds, other: Milliseconds) {
@@ -132,28 +198,26 @@ fn print_ratio(name: &str, time: Milliseconds, other: Milliseconds) {
     }
 }
 
-fn bench(large: &LargeJob) {
-    let file = &large.job;
-    let job = fast::read(file).expect("large jobs are valid");
-    let unfilled_file = without_fills(file);
-    let proved = proved_times(file, &unfilled_file);
-    let second = second_times(file, &unfilled_file, &job);
-    let strips = above_noise(least_time(|| plain::summing_strips(&job)));
-    let all = above_noise(least_time(|| plain::summing_all(&job)));
-    println!("{} ({} bytes)", large.name, file.len());
-    println!(
-        "  {:28} {:>10} {:>10} {:>8}",
-        "phase", "proved ms", "second ms", "ratio"
-    );
-    print_row("reading, fills left out", proved.unfilled, second.unfilled);
-    print_row("fills, fillable areas", proved.fills, second.fills);
-    print_row("reading in all", proved.reading, second.reading);
-    print_row("exact run", proved.exact, second.exact);
-    print_row("  beside summing strips", proved.exact, strips);
-    print_row("  beside summing all", proved.exact, all);
-    print_row("quick run, greatest", proved.greatest, second.greatest);
-    print_row("quick run, least", proved.least, second.least);
-    print_row("verdict", proved.verdict, second.verdict);
+/// The table of a job, by the times of the libraries, the second implementation
+/// and the plain loops.
+fn print_table(libraries: &[Times], second: &Times, [strips, all]: [Milliseconds; 2]) {
+    let (proved, earlier) = libraries.split_first().expect("the linked one");
+    let others: Vec<&Times> = once(second).chain(earlier).collect();
+    let row = |name, time: fn(&Times) -> Milliseconds| {
+        let others: Vec<_> = others.iter().map(|times| time(times)).collect();
+        print_row(name, time(proved), &others);
+    };
+    print_header(others.len());
+    row("reading, fills left out", |times| times.unfilled);
+    row("fills, fillable areas", |times| times.fills);
+    row("reading in all", |times| times.reading);
+    row("exact run", |times| times.exact);
+    print_row("  beside summing strips", proved.exact, &[strips]);
+    print_row("  beside summing all", proved.exact, &[all]);
+    row("quick run, greatest", |times| times.greatest);
+    row("quick run, least", |times| times.least);
+    row("verdict", |times| times.verdict);
+    row("whole answer", |times| times.answer);
     print_ratio(
         "quick run / exact run, greatest",
         proved.greatest,
@@ -163,6 +227,31 @@ fn bench(large: &LargeJob) {
     print_ratio("least / greatest", proved.least, proved.greatest);
 }
 
-fn main() {
-    on_large_stack(|| large_jobs().iter().for_each(bench));
+fn bench(libraries: &[Library], large: &LargeJob) {
+    assert_same(libraries, large);
+    let (file, unfilled_file) = (&large.job, large.without_fills());
+    let job = fast::read(file).expect("large jobs are valid");
+    let proved = proved_times(libraries, file, &unfilled_file);
+    let second = second_times(file, &unfilled_file, &job);
+    let loops = [plain::summing_strips, plain::summing_all]
+        .map(|areas| above_noise(least_time(|| areas(&job))));
+    println!("{} ({} bytes)", large.name, file.len());
+    print_table(&proved, &second, loops);
+}
+
+fn main() -> ExitCode {
+    let earlier = match std::env::args().nth(1).as_deref().map(earlier::load) {
+        Some(Err(message)) => {
+            eprintln!("{message}");
+            return ExitCode::FAILURE;
+        }
+        Some(Ok(library)) => Some(library),
+        None => None,
+    };
+    let libraries: Vec<Library> = once(LINKED).chain(earlier).collect();
+    on_large_stack(move || {
+        let jobs = large_jobs();
+        jobs.iter().for_each(|large| bench(&libraries, large));
+    });
+    ExitCode::SUCCESS
 }

@@ -11,6 +11,18 @@ pub struct LargeJob {
     pub job: Vec<u8>,
 }
 
+impl LargeJob {
+    /// The job without its fill lines.
+    pub fn without_fills(&self) -> Vec<u8> {
+        let lines = self.job.split_inclusive(|&byte| byte == b'\n');
+        lines
+            .filter(|line| !line.starts_with(b"(fill"))
+            .flatten()
+            .copied()
+            .collect()
+    }
+}
+
 /// One job for each way of being heavy.
 pub fn large_jobs() -> Vec<LargeJob> {
     let named = |name, job: Job| LargeJob {
@@ -22,6 +34,8 @@ pub fn large_jobs() -> Vec<LargeJob> {
         named("most starts", most_starts()),
         named("soon met", soon_met()),
         named("windows alike", windows_alike()),
+        named("wide windows", wide_windows()),
+        named("bars and fills", bars_and_fills()),
         named("most tiles", most_tiles()),
         named("wide gaps", wide_gaps()),
         named("ragged starts", ragged_starts()),
@@ -87,25 +101,34 @@ fn different_sides() -> Job {
     job
 }
 
-/// 64 windows across and the window side a multiple of 16, so that there are
-/// 1009 starts on an axis at the last level; upright bars side by side, as many
-/// as may stand. `bar` gives each by its number, the left end of its room and
-/// the layout's size.
-fn barred(bar: impl Fn(u64, u64, u64) -> [u64; 4]) -> Job {
-    let mut job = bare_job(1008, MOST_TILES, 1);
+/// Upright bars side by side, as many as may stand. `bar` gives each by its
+/// number, the left end of its room and the layout's size.
+fn barred(bare: Job, bar: impl Fn(u64, u64, u64) -> [u64; 4]) -> Job {
     let bars = MOST_RECTS as u64;
-    let room = job.size / bars;
-    job.rects = (0..bars).map(|k| bar(k, k * room, job.size)).collect();
-    job
+    let room = bare.size / bars;
+    let rects = (0..bars).map(|k| bar(k, k * room, bare.size)).collect();
+    Job { rects, ..bare }
+}
+
+/// A bar of about this width over nearly the full height. Those of different
+/// numbers and rooms have no two sides on one line.
+fn different_bar(width: u64) -> impl Fn(u64, u64, u64) -> [u64; 4] {
+    move |k, room, size| {
+        let left = room + 50 + k % 3;
+        [left, k, left + width + k % 2, size - k]
+    }
+}
+
+/// 64 windows across and the window side a multiple of 16, so that there are
+/// 1009 starts on an axis at the last level.
+fn small_windows() -> Job {
+    bare_job(1008, MOST_TILES, 1)
 }
 
 /// Nearly all starts are kept by the run for the greatest, because the bars
 /// make windows nearly alike. All sides differ here too.
 fn most_starts() -> Job {
-    barred(|k, room, size| {
-        let left = room + 50 + k % 3;
-        [left, k, left + 100 + k % 2, size - k]
-    })
+    barred(small_windows(), different_bar(100))
 }
 
 /// The same bars, for an accuracy that level 1 meets: the other levels and the
@@ -122,10 +145,27 @@ fn soon_met() -> Job {
 /// corner, and many a shrunk window has more metal than that; these are of
 /// nearly one length, and wide.
 fn windows_alike() -> Job {
-    barred(|k, room, size| {
+    barred(small_windows(), |k, room, size| {
         let (left, inset) = (room + k % 3, k % 16);
         [left, inset, left + 240 + k % 5, size - inset]
     })
+}
+
+/// The bars of most starts under windows a quarter of the layout across: each
+/// holds 64 of them, and nearly every strip holds them all.
+fn wide_windows() -> Job {
+    barred(bare_job(1023, MOST_TILES, 16), different_bar(100))
+}
+
+/// The heaviest job known: small windows under bars, and as many fills as the
+/// file has room for, all in tiles that bars cross. The bars are thin, so that the
+/// fill is safe and every tile start is judged. Each height is that of two bars,
+/// which leaves them so much alike that the run for the least passes no start over.
+fn bars_and_fills() -> Job {
+    let thin = different_bar(1);
+    let mut job = barred(small_windows(), |k, room, size| thin(k % 128, room, size));
+    job.fills.fill(7);
+    job
 }
 
 /// 4096 tiles, as many of them filled as the file has room for.
