@@ -4,7 +4,7 @@ use Prim.Native.Nat.{ℕ, _+_, _-_, _*_, _≤_, _<_}
 use mathlib.Core.Path.{_≡_, refl, sym, ap, ap₂, subst}
 use mathlib.Core.Bool.{Bool, true, false, _&&_}
 use mathlib.Core.Logic.{_⊎_, inl, inr}
-use mathlib.Core.List.{List, [], _∷_, _++_, List·Memᴰ, List·Memᴰ·head, List·Memᴰ·tail, Memᴰ·append-left, Memᴰ·append-right, List·Memᴰ·append-cases, List·Memᴰ·cases-cons, List·Memᴰ·not-nil}
+use mathlib.Core.List.{List, [], _∷_, _++_, List·Memᴰ, List·Memᴰ·head, List·Memᴰ·tail, Memᴰ·append-left, Memᴰ·append-right, List·Memᴰ·append-cases, List·Memᴰ·cases-cons, List·Memᴰ·not-nil, List·Memᴰ·eq-of-singleton}
 use native.Mathlib.Nat.{add-zero}
 use native.Mathlib.Decide.{ℕ-discrete}
 use native.Mathlib.Omega.{arith}
@@ -119,13 +119,6 @@ module _ (t : List ℕ) (n w y : ℕ) where
   abbrev far : Sense → List ℕ
   far s = farOf s (stripSides t Low y (y + w)) (stripSides t High y (y + w))
 
-  -- the positions of the two walks
-  abbrev first-and-near : Sense → List ℕ
-  first-and-near s = 0 ∷ positionsOf 0 (n - w) (near s)
-
-  abbrev last-and-far : Sense → List ℕ
-  last-and-far s = (n - w) ∷ positionsOf w (n - w) (far s)
-
   -- a side of the strip stands where a rectangle with rows in it has one
   side-listed : (side : Side) (shift p : ℕ) → p ≤ n - w → 0 < rectSum (rectsOf t) (λ r. at (p + shift) (column side r) (rows r)) →
       List·Memᴰ p (positionsOf shift (n - w) (stripSides t side y (y + w)))
@@ -153,26 +146,26 @@ module _ (t : List ℕ) (n w y : ℕ) where
     where
       go : (0 < rectSum (rectsOf t) (λ r. at p (nearColumn s r) (rows r))) ⊎ (0 < rectSum (rectsOf t) (λ r. at (p + w) (farColumn s r) (rows r))) →
           List·Memᴰ p (triedRow s w (n - w) t y)
-      go (inl k) = Memᴰ·append-left (last-and-far s) (List·Memᴰ·tail (near-listed s p h k))
-      go (inr k) = Memᴰ·append-right (first-and-near s) (List·Memᴰ·tail (far-listed s p h k))
+      go (inl k) = List·Memᴰ·tail (List·Memᴰ·tail (Memᴰ·append-left (positionsOf w (n - w) (far s)) (near-listed s p h k)))
+      go (inr k) = List·Memᴰ·tail (List·Memᴰ·tail (Memᴰ·append-right (positionsOf 0 (n - w) (near s)) (far-listed s p h k)))
 
   pub tried-complete : (s : Sense) (p : ℕ) → p ≤ n - w → Candidate (nearColumn s) (farColumn s) (λ r. common (r .y1) (r .y2) y (y + w)) w (n - w) p (rectsOf t) →
       List·Memᴰ p (triedRow s w (n - w) t y)
   tried-complete s p h (at-start e) = List·Memᴰ·head e
-  tried-complete s p h (at-end e) = Memᴰ·append-right (first-and-near s) (List·Memᴰ·head e)
+  tried-complete s p h (at-end e) = List·Memᴰ·tail (List·Memᴰ·head e)
   tried-complete s p h (at-side m) = sides-listed s p h m
 
   pub tried-within : (s : Sense) (p : ℕ) → List·Memᴰ p (triedRow s w (n - w) t y) → p ≤ n - w
-  tried-within s p m = go (List·Memᴰ·append-cases (first-and-near s) m)
+  tried-within s p m = go (List·Memᴰ·append-cases (0 ∷ (n - w) ∷ []) m)
     where
-      first : (p ≡ 0) ⊎ List·Memᴰ p (positionsOf 0 (n - w) (near s)) → p ≤ n - w
-      first (inl e) = omega arith
-      first (inr q) = positions-within 0 (n - w) (near s) p q
+      ends : (p ≡ 0) ⊎ List·Memᴰ p ((n - w) ∷ []) → p ≤ n - w
+      ends (inl e) = omega arith
+      ends (inr e) = omega (arith, List·Memᴰ·eq-of-singleton e)
 
-      second : (p ≡ n - w) ⊎ List·Memᴰ p (positionsOf w (n - w) (far s)) → p ≤ n - w
-      second (inl e) = omega arith
-      second (inr q) = positions-within w (n - w) (far s) p q
+      sides : List·Memᴰ p (positionsOf 0 (n - w) (near s)) ⊎ List·Memᴰ p (positionsOf w (n - w) (far s)) → p ≤ n - w
+      sides (inl q) = positions-within 0 (n - w) (near s) p q
+      sides (inr q) = positions-within w (n - w) (far s) p q
 
-      go : List·Memᴰ p (first-and-near s) ⊎ List·Memᴰ p (last-and-far s) → p ≤ n - w
-      go (inl q) = first (List·Memᴰ·cases-cons q)
-      go (inr q) = second (List·Memᴰ·cases-cons q)
+      go : List·Memᴰ p (0 ∷ (n - w) ∷ []) ⊎ List·Memᴰ p (positionsOf 0 (n - w) (near s) ++ positionsOf w (n - w) (far s)) → p ≤ n - w
+      go (inl q) = ends (List·Memᴰ·cases-cons q)
+      go (inr q) = sides (List·Memᴰ·append-cases (positionsOf 0 (n - w) (near s)) q)

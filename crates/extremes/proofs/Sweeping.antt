@@ -5,10 +5,8 @@ use mathlib.Core.Bool.{Bool, true, false}
 use mathlib.Core.List.{List, [], _∷_, _++_}
 use native.Mathlib.Numerals.{add-two}
 use native.Mathlib.Omega.{arith}
-use lib.Dec.{leb}
 use lib.ListN.{length, getD, drop, length-drop}
-use borrow.Author.Tests.{le-leb, lt-leb, leb-true}
-use Rattle.laws.proofs.Tests.{both}
+use borrow.Author.Tests.{le-leb, lt-leb}
 use Rattle.geometry.specs.declared.Spot.{Spot}
 use Rattle.geometry.specs.declared.Sense.{Sense}
 use Rattle.geometry.specs.Layout.{rectsOf}
@@ -20,7 +18,7 @@ use Rattle.sweep.proofs.Moving.{two-at, true-area, behind-start, behind-later, 
 use Rattle.extremes.specs.declared.searching.Row.{Row}
 use Rattle.extremes.specs.declared.searching.Tried.{Tried}
 use Rattle.extremes.specs.Exact.{windowArea}
-use Rattle.extremes.specs.Search.{leading, passed, leadingInRow, stripArea, isReached, positionsOf, nearOf, farOf, triedAlong, triedIn, triedRow, triedAt, triedBy, SmallRow, Walkable}
+use Rattle.extremes.specs.Search.{leading, passed, leadingInRow, stripArea, isReached, positionsOf, nearOf, farOf, triedIn, triedRow, triedAt, triedBy, SmallRow}
 use Rattle.extremes.proofs.Steps.{passed-cong, passed-append}
 use Rattle.extremes.proofs.Reached.{positions-cons, short-positions}
 
@@ -54,11 +52,6 @@ tried-behind lows highs row x p b t e h =
     let moved = ap (λ (t : Tried). t .frame) e in
     behind-moved lows highs (t .frame) x (x + row .w) p (p + row .w) moved (true-area lows highs (t .frame) x (x + row .w) moved (omega arith)) h (omega arith)
 
--- the first window of a row is not right of itself
-pub first-behind : (lows highs : List ℕ) (row : Row) (b : Spot) (t : Tried) → t ≡ triedAt lows highs row 0 b → Behind lows highs (t .frame) 0 (row .w)
-first-behind lows highs row b t e =
-    behind-later lows highs (t .frame) 0 (0 + row .w) 0 (row .w) (tried-behind lows highs row 0 0 b t e (omega arith)) (omega arith) (omega arith)
-
 -- ---- the sides of a list, from left to right
 
 -- the leading one of a row's windows at the positions of a list
@@ -66,24 +59,21 @@ abbrev along : (lows highs : List ℕ) → Row → List ℕ → Spot → Spot
 along lows highs row xs b = leadingInRow (row .sense) (stripArea lows highs (row .w)) xs (row .y) b
 
 module _ (lows highs : List ℕ) (row : Row) (sides : List ℕ) (shift : ℕ) (start : Spot) where
-  -- the sides before place i were tried; those that are left rise from `reached` on, and the box is neither right of where they reach nor of the
-  -- last window
+  -- the sides before place i were tried; those that are left rise from `reached` on, and the box is not right of where they reach
   pub record Searching (t : Tried) (i : ℕ) : Type 0 where
     pub whole : along lows highs row (positionsOf shift (row .last) (drop i sides)) (t .best) ≡ along lows highs row (positionsOf shift (row .last) sides) start
     pub reached : ℕ
     pub rises : Rising reached (drop i sides)
     pub behind : Behind lows highs (t .frame) (reached - shift) (reached - shift + row .w)
-    pub behind-last : Behind lows highs (t .frame) (row .last) (row .last + row .w)
     pub within : i ≤ length sides
 
-  pub searching-starts : (t : Tried) → t .best ≡ start → Walkable lows highs row sides t → Searching t 0
-  searching-starts t e w =
+  pub searching-starts : (f : Frame) → f ≡ startFrame → Strip lows highs → Sides sides → Searching (record { frame = f; best = start }) 0
+  searching-starts f e s r =
       record {
-        whole = ap (along lows highs row (positionsOf shift (row .last) sides)) e;
+        whole = refl;
         reached = 0;
-        rises = w .rising .rising;
-        behind = behind-later lows highs (t .frame) 0 (row .w) (0 - shift) (0 - shift + row .w) (w .behind) (omega arith) (omega arith);
-        behind-last = behind-later lows highs (t .frame) 0 (row .w) (row .last) (row .last + row .w) (w .behind) (omega arith) (omega arith);
+        rises = r .rising;
+        behind = behind-start lows highs f (0 - shift) (0 - shift + row .w) s e;
         within = omega arith;
       }
 
@@ -127,9 +117,6 @@ module _ (lows highs : List ℕ) (row : Row) (sides : List ℕ) (shift : ℕ) (s
                 reached = v;
                 rises = here .1;
                 behind = tried-behind lows highs row (v - shift) (v - shift) (t .best) (triedAt lows highs row (v - shift) (t .best)) refl (omega arith);
-                behind-last =
-                    tried-behind lows highs row (v - shift) (row .last) (t .best) (triedAt lows highs row (v - shift) (t .best)) refl
-                    (leb-true (v - shift) (row .last) (both (leb shift v) (leb (v - shift) (row .last)) k .1));
                 within = inside;
               }
           go false k =
@@ -140,47 +127,41 @@ module _ (lows highs : List ℕ) (row : Row) (sides : List ℕ) (shift : ℕ) (s
                 reached = v;
                 rises = here .1;
                 behind = searching-may;
-                behind-last = z .behind-last;
                 within = inside;
               }
 
-    pub searching-ends : length sides ≤ i + 1 →
-        (t .best ≡ along lows highs row (positionsOf shift (row .last) sides) start) × Behind lows highs (t .frame) (row .last) (row .last + row .w)
+    pub searching-ends : length sides ≤ i + 1 → t .best ≡ along lows highs row (positionsOf shift (row .last) sides) start
     unfolding passed
-    searching-ends h = (
-      subst (λ (l : List ℕ). along lows highs row l (t .best) ≡ along lows highs row (positionsOf shift (row .last) sides) start)
-          (short-positions shift (row .last) (drop i sides) (omega (arith, length-drop i sides))) (z .whole),
-      z .behind-last,
-    )
+    searching-ends h =
+        subst (λ (l : List ℕ). along lows highs row l (t .best) ≡ along lows highs row (positionsOf shift (row .last) sides) start)
+        (short-positions shift (row .last) (drop i sides) (omega (arith, length-drop i sides))) (z .whole)
 
--- ---- the two walks
+-- ---- the ends, then the sides
 
 module _ (lows highs : List ℕ) (row : Row) (best : Spot) where
-  pub walks-tried : (near far : List ℕ) (first by-near last by-far : Tried) → first ≡ triedAt lows highs row 0 best →
-      by-near .best ≡ along lows highs row (positionsOf 0 (row .last) near) (first .best) → last ≡ triedAt lows highs row (row .last) (by-near .best) →
-      by-far .best ≡ along lows highs row (positionsOf (row .w) (row .last) far) (last .best) →
-      by-far .best ≡ along lows highs row (triedAlong (row .w) (row .last) near far) best
+  pub ends-tried : (first last : Tried) → first ≡ triedAt lows highs row 0 best → last ≡ triedAt lows highs row (row .last) (first .best) →
+      last .best ≡ along lows highs row (0 ∷ row .last ∷ []) best
   unfolding passed
-  walks-tried near far first by-near last by-far e f g h =
-      h
-      ∙ ap (λ (t : Tried). along lows highs row fars (t .best)) g
-      ∙ ap (λ (b : Spot). along lows highs row fars (step (row .last) b)) (f ∙ ap (λ (t : Tried). along lows highs row nears (t .best)) e)
-      ∙ sym (passed-append step (0 ∷ nears) (row .last ∷ fars) best)
+  ends-tried first last e f = ap (λ (t : Tried). t .best) (f ∙ ap (λ (t : Tried). triedAt lows highs row (row .last) (t .best)) e)
+
+  -- the sides that the sense asks for
+  pub sides-tried : (s : Sense) (ends first r : Spot) → row .sense ≡ s → ends ≡ along lows highs row (0 ∷ row .last ∷ []) best →
+      first ≡ along lows highs row (positionsOf 0 (row .last) (nearOf s lows highs)) ends → r ≡ along lows highs row (positionsOf (row .w) (row .last) (farOf s lows highs)) first →
+      r ≡ along lows highs row (triedIn (row .sense) (row .w) (row .last) lows highs) best
+  sides-tried s ends first r k e f g =
+      g ∙ ap (along lows highs row far) (f ∙ ap (along lows highs row near) e)
+      ∙ sym (passed-append step near far (along lows highs row (0 ∷ row .last ∷ []) best))
+      ∙ sym (passed-append step (0 ∷ row .last ∷ []) (near ++ far) best)
+      ∙ ap (λ (s : Sense). along lows highs row (triedIn s (row .w) (row .last) lows highs) best) (sym k)
     where
       step : ℕ → Spot → Spot
       step x b = leading (row .sense) b (spotAt (stripArea lows highs (row .w)) x (row .y))
 
-      nears : List ℕ
-      nears = positionsOf 0 (row .last) near
+      near : List ℕ
+      near = positionsOf 0 (row .last) (nearOf s lows highs)
 
-      fars : List ℕ
-      fars = positionsOf (row .w) (row .last) far
-
-  -- over the sides that the sense asks for
-  pub sides-tried : (s : Sense) (r : Spot) → row .sense ≡ s →
-      r ≡ along lows highs row (triedAlong (row .w) (row .last) (nearOf s lows highs) (farOf s lows highs)) best →
-      r ≡ along lows highs row (triedIn (row .sense) (row .w) (row .last) lows highs) best
-  sides-tried s r k e = e ∙ ap (λ (s : Sense). along lows highs row (triedIn s (row .w) (row .last) lows highs) best) (sym k)
+      far : List ℕ
+      far = positionsOf (row .w) (row .last) (farOf s lows highs)
 
 -- ---- the row by its strip
 

@@ -11,8 +11,8 @@ use Rattle.geometry.specs.Extreme.{better, spotAt}
 use Rattle.geometry.specs.Sizes.{widest}
 use Rattle.geometry.specs.Layout.{rectsOf}
 use Rattle.sweep.specs.declared.Side.the-variants.{Low, High}
-use Rattle.sweep.specs.Strips.{stripSides, stripSum, Sides, Strip, Swept}
-use Rattle.sweep.specs.Cursors.{frameAt, Behind}
+use Rattle.sweep.specs.Strips.{stripSides, stripSum, Swept}
+use Rattle.sweep.specs.Cursors.{frameAt}
 use Rattle.extremes.specs.declared.searching.Row.{Row}
 use Rattle.extremes.specs.declared.searching.Tried.{Tried}
 use Rattle.extremes.specs.Exact.{windowArea}
@@ -66,13 +66,9 @@ abbrev pub farOf : Sense → (lows highs : List ℕ) → List ℕ
 farOf Greatest lows highs = highs
 farOf Least lows highs = lows
 
--- the positions that are tried in a row, in two walks: from 0 over the sides that the low edge meets to the last one, and over the sides that the
--- high edge meets
-abbrev pub triedAlong : (w last : ℕ) → (near far : List ℕ) → List ℕ
-triedAlong w last near far = (0 ∷ positionsOf 0 last near) ++ (last ∷ positionsOf w last far)
-
+-- the positions that are tried in a row: 0, the last one, and where an edge of the window meets a side of its strip
 abbrev pub triedIn : Sense → (w last : ℕ) → (lows highs : List ℕ) → List ℕ
-triedIn s w last lows highs = triedAlong w last (nearOf s lows highs) (farOf s lows highs)
+triedIn s w last lows highs = (0 ∷ last ∷ []) ++ (positionsOf 0 last (nearOf s lows highs) ++ positionsOf w last (farOf s lows highs))
 
 abbrev pub triedRow : Sense → (w last : ℕ) → (rects : List ℕ) → (y : ℕ) → List ℕ
 triedRow s w last rects y = triedIn s w last (stripSides rects Low y (y + w)) (stripSides rects High y (y + w))
@@ -110,10 +106,3 @@ pub record Searchable (rects order : List ℕ) (n w : ℕ) : Type 0 where
 pub record SmallRow (row : Row) : Type 0 where
   pub right : row .last + row .w ≤ widest
   pub low : row .y ≤ widest
-
--- a walk along a list of sides, in a row, by its strip: the box that is carried along is not right of the row's first window
-pub record Walkable (lows highs : List ℕ) (row : Row) (sides : List ℕ) (before : Tried) : Type 0 where
-  pub strip : Strip lows highs
-  pub rising : Sides sides
-  pub small : SmallRow row
-  pub behind : Behind lows highs (before .frame) 0 (row .w)

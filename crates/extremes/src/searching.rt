@@ -9,7 +9,7 @@ ghost use Rattle.sweep.specs.Strips.{stripRoom, Sides, Strip, Swept};
 ghost use Rattle.sweep.specs.Cursors.{Behind, Upright};
 ghost use Rattle.extremes.specs.Exact.{windowArea};
 ghost use Rattle.extremes.specs.Search.{earlier, leads, leading, leadingInRow};
-ghost use Rattle.extremes.specs.Search.{stripArea, triedAt, triedBy, positionsOf, triedAlong, triedIn, triedRow, SmallRow, Walkable};
+ghost use Rattle.extremes.specs.Search.{stripArea, triedAt, triedBy, positionsOf, triedIn, triedRow, SmallRow};
 use geometry::Sense;
 use geometry::Spot;
 use sweep::Frame;
@@ -104,63 +104,64 @@ fn try_side(lows: &[u64], highs: &[u64], row: Row, side: u64, shift: u64, before
     try_window(lows, highs, row, x, before)
 }
 
-// Tries the windows whose edges meet the sides of a list, from left to right. The
-// box that is carried along is then not right of the row's last window.
+// Tries the windows whose edges meet the sides of a list, from left to right.
 fn search_sides(
     lows: &[u64],
     highs: &[u64],
     row: Row,
     sides: &[u64],
     shift: u64,
-    before: Tried,
-) -> Tried
-    requires { ⌜ Walkable (now lows) (now highs) row (now sides) before ⌝ }
-    ensures { λ r. ⌜ r .best ≡ leadingInRow (row .sense) (stripArea (now (lows .entry)) (now (highs .entry)) (row .w)) (positionsOf shift (row .last) (now (sides .entry))) (row .y) (before .best) ⌝ }
-    ensures { λ r. ⌜ Behind (now (lows .entry)) (now (highs .entry)) (r .frame) (row .last) (row .last + row .w) ⌝ }
+    best: Spot,
+) -> Spot
+    requires { ⌜ Strip (now lows) (now highs) ⌝ }
+    requires { ⌜ Sides (now sides) ⌝ }
+    requires { ⌜ SmallRow row ⌝ }
+    ensures { λ r. ⌜ r ≡ leadingInRow (row .sense) (stripArea (now (lows .entry)) (now (highs .entry)) (row .w)) (positionsOf shift (row .last) (now (sides .entry))) (row .y) best ⌝ }
 {
-    let mut tried = before;
+    let mut tried = Tried {
+        frame: sweep::start_frame(),
+        best,
+    };
     let mut i: usize = 0;
     while i + 1 < sides.len() {
         tried = try_side(lows, highs, row, sides[i], shift, tried);
         i += 2;
     }
-    tried
+    tried.best
 }
 
-// Tries the windows of a row, by its strip, in two walks: from the first position
-// over the sides that the low edge meets to the last position, and over those
-// that the high edge meets.
-fn search_along(
-    lows: &[u64],
-    highs: &[u64],
-    row: Row,
-    near: &[u64],
-    far: &[u64],
-    best: Spot,
-) -> Spot
-    requires { ⌜ Strip (now lows) (now highs) × SmallRow row ⌝ }
-    requires { ⌜ Sides (now near) × Sides (now far) ⌝ }
-    ensures { λ r. ⌜ r ≡ leadingInRow (row .sense) (stripArea (now (lows .entry)) (now (highs .entry)) (row .w)) (triedAlong (row .w) (row .last) (now (near .entry)) (now (far .entry))) (row .y) best ⌝ }
+// Tries the windows at 0 and at the last position.
+fn search_ends(lows: &[u64], highs: &[u64], row: Row, best: Spot) -> Spot
+    requires { ⌜ Strip (now lows) (now highs) ⌝ }
+    requires { ⌜ SmallRow row ⌝ }
+    ensures { λ r. ⌜ r ≡ leadingInRow (row .sense) (stripArea (now (lows .entry)) (now (highs .entry)) (row .w)) (0 ∷ row .last ∷ []) (row .y) best ⌝ }
 {
-    let start = sweep::start_frame();
-    let first = try_window(lows, highs, row, 0, Tried { frame: start, best });
-    let by_near = search_sides(lows, highs, row, near, 0, first);
-    let last = try_window(lows, highs, row, row.last, by_near);
-    let best = last.best;
-    let by_far = search_sides(lows, highs, row, far, row.w, Tried { frame: start, best });
-    by_far.best
+    let start = Tried {
+        frame: sweep::start_frame(),
+        best,
+    };
+    let first = try_window(lows, highs, row, 0, start);
+    let last = try_window(lows, highs, row, row.last, first);
+    last.best
 }
 
-// The same, by the sides that the sense asks for.
+// Tries the windows of a row at every candidate, by the row's strip.
 fn search_strip(lows: &[u64], highs: &[u64], row: Row, best: Spot) -> Spot
     requires { ⌜ Strip (now lows) (now highs) ⌝ }
     requires { ⌜ SmallRow row ⌝ }
     ensures { λ r. ⌜ r ≡ leadingInRow (row .sense) (stripArea (now (lows .entry)) (now (highs .entry)) (row .w)) (triedIn (row .sense) (row .w) (row .last) (now (lows .entry)) (now (highs .entry))) (row .y) best ⌝ }
 {
     let sense = row.sense;
+    let ends = search_ends(lows, highs, row, best);
     match sense {
-        Sense::Greatest => search_along(lows, highs, row, lows, highs, best),
-        Sense::Least => search_along(lows, highs, row, highs, lows, best),
+        Sense::Greatest => {
+            let near = search_sides(lows, highs, row, lows, 0, ends);
+            search_sides(lows, highs, row, highs, row.w, near)
+        }
+        Sense::Least => {
+            let near = search_sides(lows, highs, row, highs, 0, ends);
+            search_sides(lows, highs, row, lows, row.w, near)
+        }
     }
 }
 
