@@ -1,15 +1,18 @@
 -- A level by its two passes, and the run level by level.
-use Prim.Native.Nat.{ℕ, zero, suc, _+_, _-_, _*_, _/_, _^_, _≤_, _<_}
+use Prim.Native.Nat.{ℕ, zero, suc, _+_, _-_, _*_, _/_, _^_, _≤_, _<_, min}
 use mathlib.Core.Path.{_≡_, refl, sym, ap, ap₂, _∙_, subst}
 use mathlib.Core.Bool.{Bool, true, false}
-use mathlib.Core.List.{List, _++_, append-nil}
+use mathlib.Core.List.{List, _++_}
+use mathlib.Core.Logic.{_⊎_, inl, inr}
 use native.Mathlib.Nat.{zero-add, div-one, div-le-self}
 use native.Mathlib.Numerals.{add-one, add-two}
 use native.Mathlib.Omega.{arith}
 use borrow.Author.Tests.{leb-true, leb-false, le-leb, lt-leb}
 use lib.Dec.{leb}
-use lib.ListN.{length, take, drop, replicate, length-replicate}
-use lib.Seq.{take-length, drop-length}
+use lib.Arith.{digits-lt}
+use lib.ListN.{length, getD, take, drop, replicate, length-replicate, List·getD-append, List·getD-eq-default}
+use lib.Seq.{length-take-le, take-take, getD-take}
+use Rattle.laws.proofs.Tests.{le-or-lt}
 use Rattle.geometry.specs.declared.Rect.{Rect}
 use Rattle.geometry.specs.declared.Spot.{Spot}
 use Rattle.geometry.specs.declared.Sense.{Sense}
@@ -31,7 +34,7 @@ use Rattle.zoom.specs.Weighing.{farInRows}
 use Rattle.zoom.specs.Next.{nextAfter}
 use Rattle.zoom.proofs.Folds.{no-better-trans, rows-stay}
 use Rattle.zoom.proofs.Steps.{step-next, step-halves, step-positive}
-use Rattle.zoom.proofs.Starts.{start-stays}
+use Rattle.zoom.proofs.Starts.{start-stays, half-start}
 use Rattle.zoom.proofs.Bracket.{first-start, level-searches, level-at-start, level-best, level-small}
 use Rattle.zoom.proofs.PassOver.{far-from-best, harmless-first, harmless-next}
 use Rattle.zoom.proofs.PassLoops.{RowsSoFar, rows-named, far-rows-limit, far-rows-kept}
@@ -178,10 +181,34 @@ module _ (s : Sense) (e v z j : ℕ) (this : Level) (m : Spot) (met : Bool) (tes
   pub ends-deeper : met ≡ false → j + 1 < v → j < z → Deeper ≡ nextAfter s e v z j this m
   ends-deeper h k l = by-tests false false false h (lt-leb v (suc j) (omega arith)) (lt-leb z j l)
 
--- a table copied over another of its length
-copied : (from to out : List ℕ) → length from ≡ length to → out ≡ take (length from) from ++ drop (length from) to → out ≡ from
-copied from to out h e =
-    e ∙ ap₂ (λ (a b : List ℕ). a ++ b) (take-length from) (ap (λ (k : ℕ). drop k to) h ∙ drop-length to) ∙ append-nil from
+-- the first k numbers of a table, copied over those of another
+copied : (from to out : List ℕ) (k : ℕ) → k ≤ length from →
+    out ≡ take (length (take k from)) (take k from) ++ drop (length (take k from)) to → out ≡ take k from ++ drop k to
+copied from to out k h e =
+    e
+    ∙ ap (λ (n : ℕ). take n (take k from) ++ drop n to) (length-take-le k from h)
+    ∙ ap (λ (l : List ℕ). l ++ drop k to) (take-take k k from (omega arith))
+
+-- what is harmless by a level's flags is harmless by as many of them as the level has, or as the table has room for
+module _ (s : Sense) (rs : List Rect) (n w t best : ℕ) (from to out : List ℕ) (stride k : ℕ) (p : 1 ≤ t) (counted : stride ≡ startsOn n w (2 * t))
+    (used : k ≡ min (stride * stride) (length out)) (full : length from ≡ length out) (copy : out ≡ take k from ++ drop k to) where
+  flag-copied : (at : ℕ) → at < stride * stride → getD out at 0 ≡ 1 → getD from at 0 ≡ 1
+  flag-copied at inside e = go (le-or-lt k at)
+    where
+      go : (k ≤ at) ⊎ (at < k) → getD from at 0 ≡ 1
+      go (inl l) =
+          let none : getD out at 0 ≡ 0 = List·getD-eq-default out 0 (omega (arith, used)) in
+          absurd (omega (arith, e, none))
+      go (inr l) =
+          sym (ap (λ (l : List ℕ). getD l at 0) copy
+          ∙ List·getD-append (take k from) (drop k to) 0 at (omega (arith, length-take-le k from (omega (arith, used, full))))
+          ∙ getD-take k from at 0 l)
+          ∙ e
+
+  harmless-copied : Harmless s rs n w t from stride best → Harmless s rs n w t out stride best
+  harmless-copied h j hj i hi e =
+      h j hj i hi
+      (flag-copied (j / 2 * stride + i / 2) (digits-lt (omega (arith, counted, half-start n w t j p hj)) (omega (arith, counted, half-start n w t i p hi))) e)
 
 -- what holds before each level
 pub record RunSoFar (s : Sense) (rs : List Rect) (n w e v z : ℕ) (old new : List ℕ) (before : Spot) (stride t j : ℕ) : Type 0 where
@@ -241,11 +268,12 @@ module _ (s : Sense) (rs : List Rect) (n w e v z : ℕ) (old new : List ℕ) (be
       after ≡ nextAfter s e v z j this m → after ≡ Ended q → q ≡ quickRun s rs n w e v
   run-answers this m after q h k l o = sym (run-over s rs n w e v z (z - j) j q left-is (run-next this m after h k l ∙ o)) ∙ so-far .whole
 
-  pub run-goes-on : (this : Level) (m : Spot) (after : Next) (old′ new′ : List ℕ) (stride′ : ℕ) → n ≤ widest →
+  pub run-goes-on : (this : Level) (m : Spot) (after : Next) (old′ new′ : List ℕ) (stride′ used : ℕ) → n ≤ widest →
       LevelDone s rs n w t before this new new′ → m ≡ extreme s rs n w → after ≡ nextAfter s e v z j this m → after ≡ Deeper → length new′ ≡ length new →
-      old′ ≡ take (length new′) new′ ++ drop (length new′) old → stride′ ≡ startsOn n w t →
+      old′ ≡ take (length (take used new′)) (take used new′) ++ drop (length (take used new′)) old → length old′ ≡ length old → stride′ ≡ startsOn n w t →
+      used ≡ min (stride′ * stride′) flagsRoom →
       RunSoFar s rs n w e v z old′ new′ (this .named) stride′ (t / 2) (j + 1)
-  run-goes-on this m after old′ new′ stride′ small d k l o size copy counted =
+  run-goes-on this m after old′ new′ stride′ used small d k l o size copy kept counted fits =
       record {
         whole = ap₂ (λ (l i : ℕ). runFrom s rs n w e v l i) less (add-one j) ∙ sym (on .same) ∙ so-far .whole;
         last = so-far .last;
@@ -253,14 +281,20 @@ module _ (s : Sense) (rs : List Rect) (n w e v z : ℕ) (old new : List ℕ) (be
         step = ap (λ (u : ℕ). u / 2) (so-far .step) ∙ sym (step-next w j) ∙ ap (λ (i : ℕ). levelStep w i) (sym (add-one j));
         follows = subst (λ (i : ℕ). levelOf s rs n w (levelStep w i) (this .named) ≡ levelAt s rs n w i) (sym (add-one j)) (run-names this (d .answer));
         start = start-stays rs n w (t / 2) (this .named) positive (subst (λ (u : ℕ). AtStart rs n w u (this .named)) even stands);
-        spare = rw (counted, same) spare;
+        spare =
+            harmless-copied s rs n w (t / 2) (this .named .area) new′ old old′ stride′ used positive (counted ∙ ap (startsOn n w) even)
+            (fits ∙ ap (min (stride′ * stride′)) (sym old-full)) (new-full ∙ sym old-full) (copied new′ old old′ used (omega (arith, fits, new-full)) copy)
+            (rw counted spare);
         few = omega (arith, counted, div-le-self (n - w) t);
-        old-size = ap length same ∙ size ∙ so-far .new-size;
-        new-size = size ∙ so-far .new-size;
+        old-size = old-full;
+        new-size = new-full;
       }
     where
-      same : old′ ≡ new′
-      same = copied new′ old old′ (size ∙ so-far .new-size ∙ sym (so-far .old-size)) copy
+      old-full : length old′ ≡ flagsRoom
+      old-full = kept ∙ so-far .old-size
+
+      new-full : length new′ ≡ flagsRoom
+      new-full = size ∙ so-far .new-size
 
       on : RunGoesOn s rs n w e v z (z - j) j
       on = run-deeper s rs n w e v z (z - j) j left-is (run-next this m after (d .answer) k l ∙ o)

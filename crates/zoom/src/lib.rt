@@ -8,6 +8,7 @@ ghost use mathlib.Core.Path.{_≡_};
 ghost use Rattle.geometry.specs.Layout.{rectsOf};
 ghost use Rattle.zoom.specs.Run.{quickRun, density};
 ghost use Rattle.zoom.specs.Sizes.{Runnable, Measurable};
+use flags::flag_count;
 use geometry::Sense;
 use geometry::Spot;
 use levels::last_level;
@@ -113,7 +114,8 @@ pub fn quick_run(sense: Sense, rects: &[u64], order: &[usize], asked: Asked, m: 
         if let Next::Ended(answer) = next {
             return answer;
         }
-        bytes::copy(&new, &mut old);
+        let used = flag_count(starts);
+        bytes::copy(&new[..used], &mut old);
         before = this.named;
         stride = starts;
         t = t / 2;
