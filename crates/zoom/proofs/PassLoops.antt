@@ -105,10 +105,10 @@ weighed-at : (s : Sense) (far far′ at : ℕ) (before after : Level) (new new�
     Weighed s far′ at before after new new′
 weighed-at s far far′ at before after new new′ e h = subst (λ (a : ℕ). Weighed s a at before after new new′) e h
 
--- the first i starts of a row were weighed
-pub record RowSoFar (s : Sense) (f : ℕ → ℕ) (t at i : ℕ) (before after : Level) (new new′ : List ℕ) : Type 0 where
-  pub search : after ≡ farInRow s f t i before
-  pub flags : new′ ≡ flagsInRow s (before .named .area) f t at i new
+-- the first i starts of a row were looked at
+pub record PassSoFar (p : Pass) (s : Sense) (f : ℕ → ℕ → ℕ) (t y at i : ℕ) (before after : Level) (new new′ : List ℕ) : Type 0 where
+  pub search : after ≡ passInRow p s f t y i before
+  pub flags : new′ ≡ flagsPassed p s (before .named .area) f t y at i new
 
 -- the search leaves the window, its limit is no worse than before, and it counts the starts whose far area is better
 far-row-named : (s : Sense) (f : ℕ → ℕ) (t k : ℕ) (v : Level) → farInRow s f t k v .named ≡ v .named
@@ -145,34 +145,35 @@ flags-row-length s best f t at zero l = refl
 flags-row-length s best f t at (suc k) l =
     length-set (flagsInRow s best f t at k l) (at + k) (flagOf s best (f (k * t))) ∙ flags-row-length s best f t at k l
 
-module _ (s : Sense) (f : ℕ → ℕ) (t at i : ℕ) (before after : Level) (new new′ : List ℕ) (so-far : RowSoFar s f t at i before after new new′) where
-  pub row-named : after .named ≡ before .named
-  row-named = ap (λ (v : Level). v .named) (so-far .search) ∙ far-row-named s f t i before
+-- the second pass
+module _ (s : Sense) (f : ℕ → ℕ → ℕ) (t y at i : ℕ) (before after : Level) (new new′ : List ℕ) (so-far : PassSoFar Far s f t y at i before after new new′) where
+  row-named : after .named ≡ before .named
+  row-named = ap (λ (v : Level). v .named) (so-far .search) ∙ far-row-named s (λ x. f x y) t i before
 
   -- what is no better than the window before the row is no better than it now
-  pub row-no-better : (a : ℕ) → NoBetter s a (before .named .area) → NoBetter s a (after .named .area)
+  row-no-better : (a : ℕ) → NoBetter s a (before .named .area) → NoBetter s a (after .named .area)
   row-no-better a h = subst (λ (b : Spot). NoBetter s a (b .area)) (sym row-named) h
 
-  pub row-weighable : i ≤ startsRoom → Weighable s levelRoom before → Weighable s keptRoom after
+  row-weighable : i ≤ startsRoom → Weighable s levelRoom before → Weighable s keptRoom after
   row-weighable h z =
       record {
-        few = omega (arith, ap (λ (v : Level). v .kept) (so-far .search), row-kept-few s f t i before, z .few);
-        stands = rw (so-far .search, far-row-named s f t i before) (far-row-stays s f t i before (z .stands));
+        few = omega (arith, ap (λ (v : Level). v .kept) (so-far .search), row-kept-few s (λ x. f x y) t i before, z .few);
+        stands = rw (so-far .search, far-row-named s (λ x. f x y) t i before) (far-row-stays s (λ x. f x y) t i before (z .stands));
       }
 
-  pub row-advances : (r : Level) (l : List ℕ) → Weighed s (f (i * t)) (at + i) after r new′ l → RowSoFar s f t at (i + 1) before r new l
+  row-advances : (r : Level) (l : List ℕ) → Weighed s (f (i * t) y) (at + i) after r new′ l → PassSoFar Far s f t y at (i + 1) before r new l
   unfolding farInRow flagsInRow
   row-advances r l w =
       record {
-        search = w .search ∙ ap (λ (v : Level). weighed s v (f (i * t))) (so-far .search) ∙ ap (λ (k : ℕ). farInRow s f t k before) (sym (add-one i));
-        flags = w .flags ∙ ap₂ (λ (m : List ℕ) (b : Spot). set m (at + i) (flagOf s (b .area) (f (i * t)))) (so-far .flags) row-named
-            ∙ ap (λ (k : ℕ). flagsInRow s (before .named .area) f t at k new) (sym (add-one i));
+        search = w .search ∙ ap (λ (v : Level). weighed s v (f (i * t) y)) (so-far .search) ∙ ap (λ (k : ℕ). farInRow s (λ x. f x y) t k before) (sym (add-one i));
+        flags = w .flags ∙ ap₂ (λ (m : List ℕ) (b : Spot). set m (at + i) (flagOf s (b .area) (f (i * t) y))) (so-far .flags) row-named
+            ∙ ap (λ (k : ℕ). flagsInRow s (before .named .area) (λ x. f x y) t at k new) (sym (add-one i));
       }
 
--- the first j rows were weighed
-pub record RowsSoFar (s : Sense) (f : ℕ → ℕ → ℕ) (t k j : ℕ) (before after : Level) (new new′ : List ℕ) : Type 0 where
-  pub search : after ≡ farInRows s f t k j before
-  pub flags : new′ ≡ flagsInRows s (before .named .area) f t k j new
+-- the first j rows
+pub record PassesSoFar (p : Pass) (s : Sense) (f : ℕ → ℕ → ℕ) (t k j : ℕ) (before after : Level) (new new′ : List ℕ) : Type 0 where
+  pub search : after ≡ passInRows p s f t k j before
+  pub flags : new′ ≡ flagsPassedRows p s (before .named .area) f t k j new
 
 pub far-rows-named : (s : Sense) (f : ℕ → ℕ → ℕ) (t k m : ℕ) (v : Level) → farInRows s f t k m v .named ≡ v .named
 unfolding farInRows
@@ -222,18 +223,18 @@ flags-rows-length s best f t k zero l = refl
 flags-rows-length s best f t k (suc m) l =
     flags-row-length s best (λ x. f x (m * t)) t (m * k) k (flagsInRows s best f t k m l) ∙ flags-rows-length s best f t k m l
 
-module _ (s : Sense) (f : ℕ → ℕ → ℕ) (t k j : ℕ) (before after : Level) (new new′ : List ℕ) (so-far : RowsSoFar s f t k j before after new new′) where
+module _ (s : Sense) (f : ℕ → ℕ → ℕ) (t k j : ℕ) (before after : Level) (new new′ : List ℕ) (so-far : PassesSoFar Far s f t k j before after new new′) where
   pub rows-named : after .named ≡ before .named
   rows-named = ap (λ (v : Level). v .named) (so-far .search) ∙ far-rows-named s f t k j before
 
-  pub rows-weighable : before .kept + j * k ≤ levelRoom → NoBetter s (before .named .area) (before .limit) → Weighable s levelRoom after
+  rows-weighable : before .kept + j * k ≤ levelRoom → NoBetter s (before .named .area) (before .limit) → Weighable s levelRoom after
   rows-weighable h z =
       record {
         few = omega (arith, ap (λ (v : Level). v .kept) (so-far .search), rows-kept-few s f t k j before);
         stands = rw (so-far .search, far-rows-named s f t k j before) (far-rows-stay s f t k j before z);
       }
 
-  pub rows-advance : (r : Level) (l : List ℕ) → RowSoFar s (λ x. f x (j * t)) t (j * k) k after r new′ l → RowsSoFar s f t k (j + 1) before r new l
+  rows-advance : (r : Level) (l : List ℕ) → PassSoFar Far s f t (j * t) (j * k) k after r new′ l → PassesSoFar Far s f t k (j + 1) before r new l
   unfolding farInRows flagsInRows
   rows-advance r l w =
       record {
@@ -255,25 +256,16 @@ module _ (p : Pass) (s : Sense) (v : Level) (seen : Spot) (at : ℕ) (new : List
       (r ≡ looked p s v seen) × (l ≡ flagged p s (v .named .area) at (seen .area) new)
   look-far r l e h k = rw e (h, k)
 
--- the first i starts of a row were looked at
-pub record PassSoFar (p : Pass) (s : Sense) (f : ℕ → ℕ → ℕ) (t y at i : ℕ) (before after : Level) (new new′ : List ℕ) : Type 0 where
-  pub search : after ≡ passInRow p s f t y i before
-  pub flags : new′ ≡ flagsPassed p s (before .named .area) f t y at i new
-
 pub pass-begins : (p : Pass) (s : Sense) (f : ℕ → ℕ → ℕ) (t y at : ℕ) (before : Level) (new : List ℕ) → PassSoFar p s f t y at 0 before before new new
 unfolding bestInRow farInRow flagsInRow
 pass-begins Standard s f t y at before new = record { search = refl; flags = refl }
 pass-begins Far s f t y at before new = record { search = refl; flags = refl }
 
-far-so-far : (s : Sense) (f : ℕ → ℕ → ℕ) (t y at i : ℕ) (before after : Level) (new new′ : List ℕ) → PassSoFar Far s f t y at i before after new new′ →
-    RowSoFar s (λ x. f x y) t at i before after new new′
-far-so-far s f t y at i before after new new′ z = record { search = z .search; flags = z .flags }
-
 pub pass-lookable : (p : Pass) (s : Sense) (f : ℕ → ℕ → ℕ) (t y at i : ℕ) (before after : Level) (new new′ : List ℕ) →
     PassSoFar p s f t y at i before after new new′ → i ≤ startsRoom → Lookable p s levelRoom before → Lookable p s keptRoom after
 pass-lookable Standard s f t y at i before after new new′ z h l = tt
 pass-lookable Far s f t y at i before after new new′ z h l =
-    row-weighable s (λ x. f x y) t at i before after new new′ (far-so-far s f t y at i before after new new′ z) h l
+    row-weighable s f t y at i before after new new′ z h l
 
 -- a level whose window is the best so far, the rest as it was
 named-so-far : (s : Sense) (f : ℕ → ℕ → ℕ) (t y at i : ℕ) (before after : Level) (new new′ : List ℕ) → PassSoFar Standard s f t y at i before after new new′ →
@@ -300,9 +292,7 @@ pass-looks Standard s f t y at i before after new new′ z area r l q e k =
       flags = k ∙ z .flags;
     }
 pass-looks Far s f t y at i before after new new′ z area r l q e k =
-    let w = row-advances s (λ x. f x y) t at i before after new new′ (far-so-far s f t y at i before after new new′ z) r l
-    (weighed-at s area (f (i * t) y) (at + i) after r new′ l q (record { search = e; flags = k })) in
-    record { search = w .search; flags = w .flags }
+    row-advances s f t y at i before after new new′ z r l (weighed-at s area (f (i * t) y) (at + i) after r new′ l q (record { search = e; flags = k }))
 
 pub pass-skips : (p : Pass) (s : Sense) (f : ℕ → ℕ → ℕ) (t y at i : ℕ) (before after : Level) (new new′ : List ℕ) →
     PassSoFar p s f t y at i before after new new′ → (k : ℕ) (flags : List ℕ) (stride j : ℕ) (l : List ℕ) →
@@ -320,11 +310,9 @@ pass-skips Standard s f t y at i before after new new′ z k flags stride j l sp
     best : after .named ≡ bestInRow s f t y i (before .named)
     best = best-so-far s f t y at i before after new new′ z
 pass-skips Far s f t y at i before after new new′ z k flags stride j l spare h few e w q =
-    let r = far-so-far s f t y at i before after new new′ z in
-    let worse = row-no-better s (λ x. f x y) t at i before after new new′ r (f (i * t) y) (spare i h e) in
-    let stands = row-weighable s (λ x. f x y) t at i before after new new′ r (omega arith) w .stands in
-    let next = row-advances s (λ x. f x y) t at i before after new new′ r after l (weighs-nothing s (f (i * t) y) (at + i) after new′ l worse stands q) in
-    record { search = next .search; flags = next .flags }
+    let worse = row-no-better s f t y at i before after new new′ z (f (i * t) y) (spare i h e) in
+    let stands = row-weighable s f t y at i before after new new′ z (omega arith) w .stands in
+    row-advances s f t y at i before after new new′ z after l (weighs-nothing s (f (i * t) y) (at + i) after new′ l worse stands q)
 
 module _ (p : Pass) (s : Sense) (f : ℕ → ℕ → ℕ) (t y at i : ℕ) (before after : Level) (new new′ : List ℕ)
     (z : PassSoFar p s f t y at i before after new new′) where
@@ -338,11 +326,6 @@ module _ (p : Pass) (s : Sense) (f : ℕ → ℕ → ℕ) (t y at i : ℕ) (befo
       same Standard = refl
       same Far = flags-row-length s (before .named .area) (λ x. f x y) t at i new
 
--- the first j rows
-pub record PassesSoFar (p : Pass) (s : Sense) (f : ℕ → ℕ → ℕ) (t k j : ℕ) (before after : Level) (new new′ : List ℕ) : Type 0 where
-  pub search : after ≡ passInRows p s f t k j before
-  pub flags : new′ ≡ flagsPassedRows p s (before .named .area) f t k j new
-
 pub passes-begin : (p : Pass) (s : Sense) (f : ℕ → ℕ → ℕ) (t k : ℕ) (before : Level) (new : List ℕ) → PassesSoFar p s f t k 0 before before new new
 unfolding bestInRows farInRows flagsInRows
 passes-begin Standard s f t k before new = record { search = refl; flags = refl }
@@ -352,9 +335,6 @@ module _ (s : Sense) (f : ℕ → ℕ → ℕ) (t k j : ℕ) (before after : Lev
   standard-best : PassesSoFar Standard s f t k j before after new new′ → after .named ≡ bestInRows s f t k j (before .named)
   standard-best z = ap (λ (v : Level). v .named) (z .search)
 
-  far-rows : PassesSoFar Far s f t k j before after new new′ → RowsSoFar s f t k j before after new new′
-  far-rows z = record { search = z .search; flags = z .flags }
-
 -- what is no better than the window before the rows is no better than it now
 pub passes-spare : (p : Pass) (s : Sense) (f : ℕ → ℕ → ℕ) (t k j : ℕ) (before after : Level) (new new′ : List ℕ) →
     PassesSoFar p s f t k j before after new new′ → (rs : List Rect) (n w : ℕ) (flags : List ℕ) (stride : ℕ) →
@@ -363,13 +343,13 @@ passes-spare Standard s f t k j before after new new′ z rs n w flags stride h 
     rows-spare s f t k j (before .named) (after .named) (standard-best s f t k j before after new new′ z) rs n w flags stride h
 passes-spare Far s f t k j before after new new′ z rs n w flags stride h =
     subst (λ (b : Spot). HarmlessRow s rs n w t flags stride j (b .area))
-    (sym (rows-named s f t k j before after new new′ (far-rows s f t k j before after new new′ z))) h
+    (sym (rows-named s f t k j before after new new′ z)) h
 
 pub passes-lookable : (p : Pass) (s : Sense) (f : ℕ → ℕ → ℕ) (t k j : ℕ) (before after : Level) (new new′ : List ℕ) →
     PassesSoFar p s f t k j before after new new′ → j * k ≤ levelRoom → Lookable p s 0 before → Lookable p s levelRoom after
 passes-lookable Standard s f t k j before after new new′ z h w = tt
 passes-lookable Far s f t k j before after new new′ z h w =
-    rows-weighable s f t k j before after new new′ (far-rows s f t k j before after new new′ z) (omega (arith, w .few)) (w .stands)
+    rows-weighable s f t k j before after new new′ z (omega (arith, w .few)) (w .stands)
 
 pub passes-advance : (p : Pass) (s : Sense) (f : ℕ → ℕ → ℕ) (t k j : ℕ) (before after : Level) (new new′ : List ℕ) →
     PassesSoFar p s f t k j before after new new′ → (r : Level) (l : List ℕ) → r ≡ passInRow p s f t (j * t) k after →
@@ -386,8 +366,7 @@ passes-advance Standard s f t k j before after new new′ z r l e q =
       flags = q ∙ z .flags;
     }
 passes-advance Far s f t k j before after new new′ z r l e q =
-    let w = rows-advance s f t k j before after new new′ (far-rows s f t k j before after new new′ z) r l (record { search = e; flags = q }) in
-    record { search = w .search; flags = w .flags }
+    rows-advance s f t k j before after new new′ z r l (record { search = e; flags = q })
 
 module _ (p : Pass) (s : Sense) (f : ℕ → ℕ → ℕ) (t k j : ℕ) (before after : Level) (new new′ : List ℕ)
     (z : PassesSoFar p s f t k j before after new new′) where

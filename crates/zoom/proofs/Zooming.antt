@@ -25,6 +25,7 @@ use Rattle.zoom.specs.declared.Quick.{Quick}
 use Rattle.zoom.specs.declared.Next.{Next}
 use Rattle.zoom.specs.declared.Next.the-variants.{Ended, Deeper}
 use Rattle.zoom.specs.declared.Grid.{Grid}
+use Rattle.zoom.specs.declared.Pass.the-variants.{Far}
 use Rattle.zoom.specs.Run.{lastLevel, levelStep, startsOn, farArea, levelOf, levelAt, isMet, exactEnd, runFrom, quickRun}
 use Rattle.geometry.specs.Sizes.{widest}
 use Rattle.zoom.specs.Sizes.{flagsRoom, startsRoom, LevelSmall}
@@ -37,7 +38,7 @@ use Rattle.zoom.proofs.Steps.{step-next, step-halves, step-positive}
 use Rattle.zoom.proofs.Starts.{start-stays, half-start}
 use Rattle.zoom.proofs.Bracket.{first-start, level-searches, level-at-start, level-best, level-small}
 use Rattle.zoom.proofs.PassOver.{far-from-best, harmless-first, harmless-next}
-use Rattle.zoom.proofs.PassLoops.{RowsSoFar, rows-named, far-rows-limit, far-rows-kept}
+use Rattle.zoom.proofs.PassLoops.{PassesSoFar, rows-named, far-rows-limit, far-rows-kept}
 
 -- ---- a level by its two passes
 
@@ -56,7 +57,7 @@ pub record LevelDone (s : Sense) (rs : List Rect) (n w t : ℕ) (before : Spot) 
 
 pub level-done : (s : Sense) (rs : List Rect) (g : Grid) (before best : Spot) (this : Level) (new new′ : List ℕ) → Sized g → AtStart rs (g .n) (g .w) (g .t) before →
     best ≡ bestInRows s (windowArea rs (g .w)) (g .t) (g .starts) (g .starts) before →
-    RowsSoFar s (farArea s rs (g .n) (g .w) (g .t)) (g .t) (g .starts) (g .starts) (record { named = best; limit = best .area; kept = 0 }) this new new′ →
+    PassesSoFar Far s (farArea s rs (g .n) (g .w) (g .t)) (g .t) (g .starts) (g .starts) (record { named = best; limit = best .area; kept = 0 }) this new new′ →
     LevelDone s rs (g .n) (g .w) (g .t) before this new new′
 unfolding levelOf
 level-done s rs g before best this new new′ z a e r =
