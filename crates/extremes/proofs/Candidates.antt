@@ -22,7 +22,7 @@ use Rattle.geometry.proofs.Overlaps.{overlap-is-area}
 use Rattle.extremes.specs.Exact.{windowArea}
 use Rattle.sweep.specs.declared.Side.the-variants.{Low, High}
 use Rattle.sweep.specs.Order.{column}
-use Rattle.extremes.specs.Listing.{side, nearSide, farSide}
+use Rattle.extremes.specs.Listing.{side, nearOf, farOf}
 
 -- a is strictly better than b
 abbrev pub Better : Sense → ℕ → ℕ → Type 0
@@ -96,21 +96,12 @@ second-difference a b x e p k =
       ramp a e,
     )
 
--- the sides of a span a to b that the window's low and high edge meet where the part bends towards an extreme
-abbrev lowMeets : Sense → (a b : ℕ) → ℕ
-lowMeets Greatest a b = a
-lowMeets Least a b = b
-
-abbrev highMeets : Sense → (a b : ℕ) → ℕ
-highMeets Greatest a b = b
-highMeets Least a b = a
-
 -- a span's part in the window does not bend towards an extreme where no edge meets its side
-part-straight : (s : Sense) (a b x e : ℕ) → x ≤ e → (lowMeets s a b ≡ suc x → ⊥) → (highMeets s a b ≡ suc e → ⊥) →
+part-straight : (s : Sense) (a b x e : ℕ) → x ≤ e → (nearOf s a b ≡ suc x → ⊥) → (farOf s a b ≡ suc e → ⊥) →
     Bounded s (2 * common a b (suc x) (suc e)) (common a b x e + common a b (suc (suc x)) (suc (suc e)))
 part-straight s a b x e k low high = go s low high (le-or-lt a b)
   where
-    go : (s : Sense) → (lowMeets s a b ≡ suc x → ⊥) → (highMeets s a b ≡ suc e → ⊥) → (a ≤ b) ⊎ (b < a) →
+    go : (s : Sense) → (nearOf s a b ≡ suc x → ⊥) → (farOf s a b ≡ suc e → ⊥) → (a ≤ b) ⊎ (b < a) →
         Bounded s (2 * common a b (suc x) (suc e)) (common a b x e + common a b (suc (suc x)) (suc (suc e)))
     go Greatest l h (inl p) = omega (arith, second-difference a b x e p k, bend-none a x l, bend-none b e h)
     go Least l h (inl p) = omega (arith, second-difference a b x e p k, bend-none b x l, bend-none a e h)
@@ -133,7 +124,7 @@ pub data Meets (low high weight : Rect → ℕ) (w p : ℕ) : List Rect → Type
 abbrev Straight : Sense → (ℕ → ℕ) → ℕ → Type 0
 Straight s f x = Bounded s (2 * f (suc x)) (f x + f (suc (suc x)))
 
-window-straight : (s : Sense) (a b w x : ℕ) → (lowMeets s a b ≡ suc x → ⊥) → (highMeets s a b ≡ suc x + w → ⊥) →
+window-straight : (s : Sense) (a b w x : ℕ) → (nearOf s a b ≡ suc x → ⊥) → (farOf s a b ≡ suc x + w → ⊥) →
     Straight s (λ z. common a b z (z + w)) x
 window-straight s a b w x low high =
     rw (suc-add (suc x) w, suc-add x w) (part-straight s a b x (x + w) (omega arith) low (λ e. high (e ∙ sym (suc-add x w))))
@@ -161,10 +152,10 @@ weightless-straight s p₀ p₁ p₂ q₀ q₁ q₂ k h l = go s l
 
 module _ (s : Sense) (a b weight : Rect → ℕ) (w : ℕ) where
   abbrev low : Rect → ℕ
-  low r = lowMeets s (a r) (b r)
+  low r = nearOf s (a r) (b r)
 
   abbrev high : Rect → ℕ
-  high r = highMeets s (a r) (b r)
+  high r = farOf s (a r) (b r)
 
   meets-or-straight : (rs : List Rect) (x : ℕ) → Meets low high weight w (suc x) rs ⊎ Straight s (weightedSum a b weight rs w) x
   unfolding rectSum
@@ -209,7 +200,7 @@ first-best-cong s f g last p e h = record {
 }
 
 candidate-of : (s : Sense) (a b weight : Rect → ℕ) (w : ℕ) (rs : List Rect) (last p : ℕ) → FirstBest s (weightedSum a b weight rs w) last p →
-    Candidate (λ r. lowMeets s (a r) (b r)) (λ r. highMeets s (a r) (b r)) weight w last p rs
+    Candidate (λ r. nearOf s (a r) (b r)) (λ r. farOf s (a r) (b r)) weight w last p rs
 candidate-of s a b weight w rs last zero h = at-start refl
 candidate-of s a b weight w rs last (suc x) h = go (ℕ-discrete (suc x) last) (meets-or-straight s a b weight w rs x)
   where
@@ -239,10 +230,10 @@ overlap-up rs w x y = rect-cong rs _ _ (λ r. mul-comm (common (r .x1) (r .x2) x
 
 -- the sides that the window's low and high edge meet in a row
 abbrev pub nearColumn : Sense → Rect → ℕ
-nearColumn s r = lowMeets s (column Low r) (column High r)
+nearColumn s r = nearOf s (column Low r) (column High r)
 
 abbrev pub farColumn : Sense → Rect → ℕ
-farColumn s r = highMeets s (column Low r) (column High r)
+farColumn s r = farOf s (column Low r) (column High r)
 
 -- the candidate lemma for windows in one row, and for windows in one column
 pub candidate-across : (s : Sense) (rs : List Rect) (w last x y : ℕ) → Disjoint rs → FirstBest s (λ z. windowArea rs w z y) last x →
@@ -252,13 +243,13 @@ candidate-across s rs w last x y d h =
     (first-best-cong s (λ z. windowArea rs w z y) _ last x (λ z. overlap-is-area rs (windowBox w z y) d ∙ overlap-across rs w z y) h)
 
 pub candidate-up : (s : Sense) (rs : List Rect) (w last x y : ℕ) → Disjoint rs → FirstBest s (λ z. windowArea rs w x z) last y →
-    Candidate (side (nearSide s)) (side (farSide s)) (λ r. common (r .x1) (r .x2) x (x + w)) w last y rs
+    Candidate (side (nearOf s 1 3)) (side (farOf s 1 3)) (λ r. common (r .x1) (r .x2) x (x + w)) w last y rs
 candidate-up s rs w last x y d h =
     go s
     (candidate-of s (side 1) (side 3) (λ r. common (r .x1) (r .x2) x (x + w)) w rs last y
     (first-best-cong s (λ z. windowArea rs w x z) _ last y (λ z. overlap-is-area rs (windowBox w x z) d ∙ overlap-up rs w x z) h))
   where
-    go : (s : Sense) → Candidate (λ r. lowMeets s (side 1 r) (side 3 r)) (λ r. highMeets s (side 1 r) (side 3 r)) (λ r. common (r .x1) (r .x2) x (x + w)) w last y rs →
-        Candidate (side (nearSide s)) (side (farSide s)) (λ r. common (r .x1) (r .x2) x (x + w)) w last y rs
+    go : (s : Sense) → Candidate (λ r. nearOf s (side 1 r) (side 3 r)) (λ r. farOf s (side 1 r) (side 3 r)) (λ r. common (r .x1) (r .x2) x (x + w)) w last y rs →
+        Candidate (side (nearOf s 1 3)) (side (farOf s 1 3)) (λ r. common (r .x1) (r .x2) x (x + w)) w last y rs
     go Greatest c = c
     go Least c = c

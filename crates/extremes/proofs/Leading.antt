@@ -13,7 +13,7 @@ use Rattle.geometry.specs.declared.Spot.{Spot}
 use Rattle.geometry.specs.declared.Sense.{Sense}
 use Rattle.geometry.specs.Extreme.{better, NoBetter, spotAt}
 use Rattle.geometry.proofs.Extremes.{NoLater, no-later-trans, better-neither, better-self, better-trans, IsBest}
-use Rattle.extremes.specs.Search.{earlier, leads, leading, passed, leadingInRow, leadingInRows}
+use Rattle.extremes.specs.Search.{earlier, leads, leading, folded, leadingInRow, leadingInRows}
 
 -- a is better than b, or as good and no later
 abbrev pub Ahead : Sense → Spot → Spot → Type 0
@@ -77,23 +77,23 @@ module _ (s : Sense) (new old : Spot) where
 
 -- no step falls behind
 module _ (s : Sense) (step : ℕ → Spot → Spot) (before : (p : ℕ) (b : Spot) → Ahead s (step p b) b) where
-  passed-before : (l : List ℕ) (b : Spot) → Ahead s (passed step l b) b
-  unfolding passed
-  passed-before [] b = ahead-refl s b
-  passed-before (p ∷ l) b = ahead-trans s _ _ _ (passed-before l (step p b)) (before p b)
+  folded-before : (l : List ℕ) (b : Spot) → Ahead s (folded step l b) b
+  unfolding folded
+  folded-before [] b = ahead-refl s b
+  folded-before (p ∷ l) b = ahead-trans s _ _ _ (folded-before l (step p b)) (before p b)
 
-  passed-tried : (l : List ℕ) (b a : Spot) (p : ℕ) → List·Memᴰ p l → ((b : Spot) → Ahead s (step p b) a) → Ahead s (passed step l b) a
-  unfolding passed
-  passed-tried (q ∷ l) b a p (List·Memᴰ·head e) h = ahead-trans s _ _ _ (passed-before l (step q b)) (rw e at (h b))
-  passed-tried (q ∷ l) b a p (List·Memᴰ·tail m) h = passed-tried l (step q b) a p m h
+  folded-tried : (l : List ℕ) (b a : Spot) (p : ℕ) → List·Memᴰ p l → ((b : Spot) → Ahead s (step p b) a) → Ahead s (folded step l b) a
+  unfolding folded
+  folded-tried (q ∷ l) b a p (List·Memᴰ·head e) h = ahead-trans s _ _ _ (folded-before l (step q b)) (rw e at (h b))
+  folded-tried (q ∷ l) b a p (List·Memᴰ·tail m) h = folded-tried l (step q b) a p m h
 
 -- what holds of each window that is tried holds of the one that is left
-passed-one : (P : Spot → Type 0) (step : ℕ → Spot → Spot) (l : List ℕ) (b : Spot) → P b → ((p : ℕ) (b : Spot) → List·Memᴰ p l → P b → P (step p b)) →
-    P (passed step l b)
-unfolding passed
-passed-one P step [] b h all = h
-passed-one P step (p ∷ l) b h all =
-    passed-one P step l (step p b) (all p b (List·Memᴰ·head refl) h) (λ q c m k. all q c (List·Memᴰ·tail m) k)
+folded-one : (P : Spot → Type 0) (step : ℕ → Spot → Spot) (l : List ℕ) (b : Spot) → P b → ((p : ℕ) (b : Spot) → List·Memᴰ p l → P b → P (step p b)) →
+    P (folded step l b)
+unfolding folded
+folded-one P step [] b h all = h
+folded-one P step (p ∷ l) b h all =
+    folded-one P step l (step p b) (all p b (List·Memᴰ·head refl) h) (λ q c m k. all q c (List·Memᴰ·tail m) k)
 
 -- y is in the list of rows, and x in the list of that row
 abbrev pub Listed : (xs : ℕ → List ℕ) (ys : List ℕ) (x y : ℕ) → Type 0
@@ -101,21 +101,21 @@ Listed xs ys x y = List·Memᴰ x (xs y) × List·Memᴰ y ys
 
 module _ (s : Sense) (f : ℕ → ℕ → ℕ) (xs : ℕ → List ℕ) (ys : List ℕ) where
   row-before : (y : ℕ) (b : Spot) → Ahead s (leadingInRow s f (xs y) y b) b
-  row-before y b = passed-before s (λ x b. leading s b (spotAt f x y)) (λ x b. leading-ahead s (spotAt f x y) b .0) (xs y) b
+  row-before y b = folded-before s (λ x b. leading s b (spotAt f x y)) (λ x b. leading-ahead s (spotAt f x y) b .0) (xs y) b
 
   row-tried : (y : ℕ) (b : Spot) (x : ℕ) → List·Memᴰ x (xs y) → Ahead s (leadingInRow s f (xs y) y b) (spotAt f x y)
   row-tried y b x m =
-      passed-tried s (λ x b. leading s b (spotAt f x y)) (λ x b. leading-ahead s (spotAt f x y) b .0) (xs y) b (spotAt f x y) x m
+      folded-tried s (λ x b. leading s b (spotAt f x y)) (λ x b. leading-ahead s (spotAt f x y) b .0) (xs y) b (spotAt f x y) x m
       (λ b. leading-ahead s (spotAt f x y) b .1)
 
   rows-tried : (b : Spot) (x y : ℕ) → Listed xs ys x y → Ahead s (leadingInRows s f xs ys b) (spotAt f x y)
-  rows-tried b x y m = passed-tried s (λ y b. leadingInRow s f (xs y) y b) row-before ys b (spotAt f x y) y (m .1) (λ b. row-tried y b x (m .0))
+  rows-tried b x y m = folded-tried s (λ y b. leadingInRow s f (xs y) y b) row-before ys b (spotAt f x y) y (m .1) (λ b. row-tried y b x (m .0))
 
   -- what is left is a window that was tried
   rows-one : (P : Spot → Type 0) (b : Spot) → P b → ((x y : ℕ) → Listed xs ys x y → P (spotAt f x y)) → P (leadingInRows s f xs ys b)
   rows-one P b h all =
-      passed-one P (λ y b. leadingInRow s f (xs y) y b) ys b h
-      (λ y b k h. passed-one P (λ x b. leading s b (spotAt f x y)) (xs y) b h (λ x b m h. leading-one s (spotAt f x y) b P h (all x y (m, k))))
+      folded-one P (λ y b. leadingInRow s f (xs y) y b) ys b h
+      (λ y b k h. folded-one P (λ x b. leading s b (spotAt f x y)) (xs y) b h (λ x b m h. leading-one s (spotAt f x y) b P h (all x y (m, k))))
 
   -- the search that begins with a listed position
   pub leading-best : (x₀ y₀ : ℕ) → Listed xs ys x₀ y₀ → IsBest s f (Listed xs ys) (leadingInRows s f xs ys (spotAt f x₀ y₀))

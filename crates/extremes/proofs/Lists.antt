@@ -18,7 +18,7 @@ use Rattle.geometry.specs.Overlaps.{rectAt}
 use Rattle.buffers.specs.Written.{Front}
 use Rattle.buffers.proofs.Fronts.{front-same, front-take, front-chain}
 use Rattle.geometry.proofs.Tables.{rects-next, rects-end}
-use Rattle.extremes.specs.Listing.{side, nearSide, farSide, listed, withPosition, withEnd, withSides, candidates}
+use Rattle.extremes.specs.Listing.{side, nearOf, farOf, listed, withPosition, withEnd, withSides, candidates}
 
 -- ---- a list is searched
 
@@ -194,11 +194,11 @@ ends-listed [] after last r h f = absurd (omega arith)
 ends-listed (a ∷ s) after last r h f =
     front-chain (a ∷ s) (0 ∷ []) (0 ∷ s) _ after 1 r (record { count = refl; buffer = refl }) f (position-grown last last (0 ∷ []) .no-shorter)
 
-pub near-small : (s : Sense) (near : ℕ) → near ≡ nearSide s → near < 4
+pub near-small : (s : Sense) (near : ℕ) → near ≡ nearOf s 1 3 → near < 4
 near-small Greatest near e = omega arith
 near-small Least near e = omega arith
 
-pub far-small : (s : Sense) (far : ℕ) → far ≡ farSide s → far < 4
+pub far-small : (s : Sense) (far : ℕ) → far ≡ farOf s 1 3 → far < 4
 far-small Greatest far e = omega arith
 far-small Least far e = omega arith
 
@@ -209,7 +209,7 @@ sides-room t out mid last count h f e =
     omega (arith, f .count)
 
 pub candidates-listed : (s : Sense) (n w : ℕ) (t out mid after : List ℕ) (near far count r : ℕ) →
-    Front out (withPosition (n - w) (n - w) (0 ∷ [])) mid count → near ≡ nearSide s → far ≡ farSide s →
+    Front out (withPosition (n - w) (n - w) (0 ∷ [])) mid count → near ≡ nearOf s 1 3 → far ≡ farOf s 1 3 →
     Front mid (withSides near far (n - w) w (rectsOf t) (take count mid)) after r → Front out (candidates s (rectsOf t) n w) after r
 unfolding candidates
 candidates-listed s n w t out mid after near far count r f a b g =

@@ -23,7 +23,8 @@ use Rattle.sweep.specs.declared.Side.the-variants.{Low, High}
 use Rattle.sweep.specs.Order.{column}
 use Rattle.sweep.specs.Strips.{sideSum, stripSides}
 use Rattle.sweep.proofs.Covered.{strip-sum}
-use Rattle.extremes.specs.Search.{isReached, positionsOf, nearOf, farOf, triedRow}
+use Rattle.extremes.specs.Listing.{nearOf, farOf}
+use Rattle.extremes.specs.Search.{isReached, positionsOf, triedRow}
 use Rattle.extremes.proofs.Candidates.{Meets, low-edge, high-edge, further, Candidate, at-start, at-end, at-side, nearColumn, farColumn}
 
 -- ---- how much meets a column

@@ -1,4 +1,4 @@
--- Which of two windows goes first, by what the code finds on each way, and what loops over positions have passed and what is left.
+-- Which of two windows goes first, by what the code finds on each way, and what loops over positions have done and what is left.
 use Prim.Native.Nat.{ℕ, _+_, _≤_, _<_}
 use mathlib.Core.Path.{_≡_, refl, sym, ap, _∙_}
 use mathlib.Core.Bool.{Bool, true, false}
@@ -12,7 +12,7 @@ use Rattle.geometry.specs.declared.Spot.{Spot}
 use Rattle.geometry.specs.declared.Sense.{Sense}
 use Rattle.geometry.specs.Sizes.{widest, SmallList}
 use Rattle.geometry.specs.Extreme.{better, spotAt}
-use Rattle.extremes.specs.Search.{earlier, leads, leading, passed, leadingInRows}
+use Rattle.extremes.specs.Search.{earlier, leads, leading, folded, leadingInRows}
 
 -- ---- which of two windows goes first
 
@@ -45,24 +45,24 @@ module _ (s : Sense) (new old : Spot) (r : Bool) (e : r ≡ leads s new old) whe
 
 -- ---- a loop over positions
 
-module _ (step : ℕ → Spot → Spot) (l : List ℕ) (start b : Spot) (i : ℕ) (whole : passed step (drop i l) b ≡ passed step l start) where
-  pub passed-next : (c : Spot) → i < length l → c ≡ step (getD l i 0) b → passed step (drop (i + 1) l) c ≡ passed step l start
-  unfolding passed
-  passed-next c h e = rw (add-one, e) (rw (drop-cons l i 0 h) at whole)
+module _ (step : ℕ → Spot → Spot) (l : List ℕ) (start b : Spot) (i : ℕ) (whole : folded step (drop i l) b ≡ folded step l start) where
+  pub folded-next : (c : Spot) → i < length l → c ≡ step (getD l i 0) b → folded step (drop (i + 1) l) c ≡ folded step l start
+  unfolding folded
+  folded-next c h e = rw (add-one, e) (rw (drop-cons l i 0 h) at whole)
 
-  pub passed-end : length l ≤ i → b ≡ passed step l start
-  unfolding passed
-  passed-end h = rw (drop-of-length-le l h) at whole
+  pub folded-end : length l ≤ i → b ≡ folded step l start
+  unfolding folded
+  folded-end h = rw (drop-of-length-le l h) at whole
 
-pub passed-cong : (step other : ℕ → Spot → Spot) (l : List ℕ) (b : Spot) → ((p : ℕ) (b : Spot) → step p b ≡ other p b) → passed step l b ≡ passed other l b
-unfolding passed
-passed-cong step other [] b h = refl
-passed-cong step other (p ∷ l) b h = passed-cong step other l (step p b) h ∙ ap (passed other l) (h p b)
+pub folded-cong : (step other : ℕ → Spot → Spot) (l : List ℕ) (b : Spot) → ((p : ℕ) (b : Spot) → step p b ≡ other p b) → folded step l b ≡ folded other l b
+unfolding folded
+folded-cong step other [] b h = refl
+folded-cong step other (p ∷ l) b h = folded-cong step other l (step p b) h ∙ ap (folded other l) (h p b)
 
-pub passed-append : (step : ℕ → Spot → Spot) (l m : List ℕ) (b : Spot) → passed step (l ++ m) b ≡ passed step m (passed step l b)
-unfolding passed
-passed-append step [] m b = refl
-passed-append step (p ∷ l) m b = passed-append step l m (step p b)
+pub folded-append : (step : ℕ → Spot → Spot) (l m : List ℕ) (b : Spot) → folded step (l ++ m) b ≡ folded step m (folded step l b)
+unfolding folded
+folded-append step [] m b = refl
+folded-append step (p ∷ l) m b = folded-append step l m (step p b)
 
 pub small-at : (l : List ℕ) (i : ℕ) → SmallList l → getD l i 0 ≤ widest
 small-at l i h = h .small i

@@ -13,13 +13,14 @@ use Rattle.geometry.specs.Layout.{rectsOf}
 use Rattle.geometry.specs.Extreme.{spotAt}
 use Rattle.sweep.specs.declared.Frame.{Frame}
 use Rattle.sweep.specs.Strips.{Rising, Sides, Strip, StripOf}
-use Rattle.sweep.specs.Cursors.{frameAt, startFrame, Behind, Upright}
+use Rattle.sweep.specs.Cursors.{frameAt, startFrame, Behind, ColumnsInOrder}
 use Rattle.sweep.proofs.Moving.{two-at, true-area, behind-start, behind-later, behind-moved}
 use Rattle.extremes.specs.declared.searching.Row.{Row}
 use Rattle.extremes.specs.declared.searching.Tried.{Tried}
 use Rattle.extremes.specs.Exact.{windowArea}
-use Rattle.extremes.specs.Search.{leading, passed, leadingInRow, stripArea, isReached, positionsOf, nearOf, farOf, triedIn, triedRow, triedAt, triedBy, SmallRow}
-use Rattle.extremes.proofs.Steps.{passed-cong, passed-append}
+use Rattle.extremes.specs.Listing.{nearOf, farOf}
+use Rattle.extremes.specs.Search.{leading, folded, leadingInRow, stripArea, isReached, positionsOf, triedIn, triedRow, triedAt, triedBy, SmallRow}
+use Rattle.extremes.proofs.Steps.{folded-cong, folded-append}
 use Rattle.extremes.proofs.Reached.{positions-cons, short-positions}
 
 -- ---- one window
@@ -31,7 +32,7 @@ window-tried lows highs row x b r f e h =
     (h ∙ ap (λ (f : Frame). leading (row .sense) b (record { area = f .area; x = x; y = row .y })) e)
 
 -- a window of a row
-pub window-upright : (row : Row) (x : ℕ) → x ≤ row .last → SmallRow row → Upright x (x + row .w)
+pub window-upright : (row : Row) (x : ℕ) → x ≤ row .last → SmallRow row → ColumnsInOrder x (x + row .w)
 window-upright row x h q = record { order = omega arith; small = omega (arith, q .right) }
 
 module _ (lows highs : List ℕ) (row : Row) (v shift : ℕ) (before : Tried) where
@@ -98,7 +99,7 @@ module _ (lows highs : List ℕ) (row : Row) (sides : List ℕ) (shift : ℕ) (s
           (z .behind) (omega (arith, here .0)) (omega (arith, here .0))
 
       pub searching-next : (r : Tried) → r ≡ triedBy lows highs row (getD sides i 0) shift t → Searching r (i + 2)
-      unfolding passed
+      unfolding folded
       searching-next r e = rw (add-two, e) (go (isReached shift (row .last) (getD sides i 0)) refl)
         where
           v : ℕ
@@ -131,7 +132,7 @@ module _ (lows highs : List ℕ) (row : Row) (sides : List ℕ) (shift : ℕ) (s
               }
 
     pub searching-ends : length sides ≤ i + 1 → t .best ≡ along lows highs row (positionsOf shift (row .last) sides) start
-    unfolding passed
+    unfolding folded
     searching-ends h =
         subst (λ (l : List ℕ). along lows highs row l (t .best) ≡ along lows highs row (positionsOf shift (row .last) sides) start)
         (short-positions shift (row .last) (drop i sides) (omega (arith, length-drop i sides))) (z .whole)
@@ -141,7 +142,7 @@ module _ (lows highs : List ℕ) (row : Row) (sides : List ℕ) (shift : ℕ) (s
 module _ (lows highs : List ℕ) (row : Row) (best : Spot) where
   pub ends-tried : (first last : Tried) → first ≡ triedAt lows highs row 0 best → last ≡ triedAt lows highs row (row .last) (first .best) →
       last .best ≡ along lows highs row (0 ∷ row .last ∷ []) best
-  unfolding passed
+  unfolding folded
   ends-tried first last e f = ap (λ (t : Tried). t .best) (f ∙ ap (λ (t : Tried). triedAt lows highs row (row .last) (t .best)) e)
 
   -- the sides that the sense asks for
@@ -150,8 +151,8 @@ module _ (lows highs : List ℕ) (row : Row) (best : Spot) where
       r ≡ along lows highs row (triedIn (row .sense) (row .w) (row .last) lows highs) best
   sides-tried s ends first r k e f g =
       g ∙ ap (along lows highs row far) (f ∙ ap (along lows highs row near) e)
-      ∙ sym (passed-append step near far (along lows highs row (0 ∷ row .last ∷ []) best))
-      ∙ sym (passed-append step (0 ∷ row .last ∷ []) (near ++ far) best)
+      ∙ sym (folded-append step near far (along lows highs row (0 ∷ row .last ∷ []) best))
+      ∙ sym (folded-append step (0 ∷ row .last ∷ []) (near ++ far) best)
       ∙ ap (λ (s : Sense). along lows highs row (triedIn s (row .w) (row .last) lows highs) best) (sym k)
     where
       step : ℕ → Spot → Spot
@@ -170,7 +171,7 @@ pub row-by-strip : (t lows highs : List ℕ) (row : Row) (b r : Spot) → StripO
     r ≡ leadingInRow (row .sense) (windowArea (rectsOf t) (row .w)) (triedRow (row .sense) (row .w) (row .last) t (row .y)) (row .y) b
 row-by-strip t lows highs row b r s e =
     e
-    ∙ passed-cong _ _ _ b
+    ∙ folded-cong _ _ _ b
     (λ x b. ap (λ (a : ℕ). leading (row .sense) b (record { area = a; x = x; y = row .y })) (s .areas x (x + row .w) (omega arith)))
     ∙ ap₂
     (λ (l h : List ℕ). leadingInRow (row .sense) (windowArea (rectsOf t) (row .w)) (triedIn (row .sense) (row .w) (row .last) l h) (row .y) b)

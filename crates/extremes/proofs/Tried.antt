@@ -13,7 +13,7 @@ use Rattle.geometry.specs.Sizes.{widest, SmallList}
 use Rattle.geometry.specs.declared.Rect.{Rect}
 use Rattle.geometry.specs.declared.Sense.{Sense}
 use Rattle.buffers.specs.Written.{Front}
-use Rattle.extremes.specs.Listing.{side, nearSide, farSide, listed, withPosition, withEnd, withSides, candidates}
+use Rattle.extremes.specs.Listing.{side, nearOf, farOf, listed, withPosition, withEnd, withSides, candidates}
 use Rattle.buffers.proofs.Fronts.{front-take}
 use Rattle.extremes.proofs.Candidates.{Meets, low-edge, high-edge, further, Candidate, at-start, at-end, at-side}
 
@@ -109,19 +109,19 @@ at-most last (p ∷ l) all zero = all p (List·Memᴰ·head refl)
 at-most last (p ∷ l) all (suc i) = at-most last l (λ q m. all q (List·Memᴰ·tail m)) i
 
 module _ (s : Sense) (rs : List Rect) (n w : ℕ) where
-  pub candidates-complete : (weight : Rect → ℕ) (p : ℕ) → p ≤ n - w → Candidate (side (nearSide s)) (side (farSide s)) weight w (n - w) p rs →
+  pub candidates-complete : (weight : Rect → ℕ) (p : ℕ) → p ≤ n - w → Candidate (side (nearOf s 1 3)) (side (farOf s 1 3)) weight w (n - w) p rs →
       List·Memᴰ p (candidates s rs n w)
   unfolding candidates
   candidates-complete weight p h (at-start e) =
-      sides-kept (nearSide s) (farSide s) (n - w) w rs _ (position-kept (n - w) (n - w) (0 ∷ []) (List·Memᴰ·head e))
+      sides-kept (nearOf s 1 3) (farOf s 1 3) (n - w) w rs _ (position-kept (n - w) (n - w) (0 ∷ []) (List·Memᴰ·head e))
   candidates-complete weight p h (at-end e) =
-      sides-kept (nearSide s) (farSide s) (n - w) w rs _ (Memᴰ·cast e (position-added (n - w) (n - w) (0 ∷ []) (omega arith)))
-  candidates-complete weight p h (at-side m) = sides-met (nearSide s) (farSide s) (n - w) w weight rs _ p h m
+      sides-kept (nearOf s 1 3) (farOf s 1 3) (n - w) w rs _ (Memᴰ·cast e (position-added (n - w) (n - w) (0 ∷ []) (omega arith)))
+  candidates-complete weight p h (at-side m) = sides-met (nearOf s 1 3) (farOf s 1 3) (n - w) w weight rs _ p h m
 
   pub candidates-within : (p : ℕ) → List·Memᴰ p (candidates s rs n w) → p ≤ n - w
   unfolding candidates
   candidates-within =
-      sides-within (nearSide s) (farSide s) (n - w) w rs _
+      sides-within (nearOf s 1 3) (farOf s 1 3) (n - w) w rs _
       (position-within (n - w) (n - w) (0 ∷ []) (λ q m. omega (arith, List·Memᴰ·eq-of-singleton m)))
 
   -- so 64 bits hold a listed position with the window's side added

@@ -7,7 +7,7 @@ use lib.ListN.{length}
 use Rattle.geometry.specs.declared.Rect.{Rect}
 use Rattle.geometry.specs.declared.Sense.{Sense}
 use Rattle.geometry.specs.declared.Sense.the-variants.{Greatest, Least}
-use Rattle.extremes.specs.declared.listing.Edges.{Edges}
+use Rattle.extremes.specs.declared.listing.ListedBy.{ListedBy}
 
 -- a side of a rectangle by its place in the table: X1 Y1 X2 Y2
 abbrev pub side : ℕ → Rect → ℕ
@@ -16,15 +16,15 @@ side (suc zero) r = r .y1
 side (suc (suc zero)) r = r .x2
 side (suc (suc (suc k))) r = r .y2
 
--- the side that the window's lower edge meets at a first extreme
-abbrev pub nearSide : Sense → ℕ
-nearSide Greatest = 1
-nearSide Least = 3
+-- of a low and a high side, or of what stands for them, on either axis: what the window's low edge meets at a first extreme, and what its high edge
+-- meets
+abbrev pub nearOf : {A : Type 0} → Sense → (low high : A) → A
+nearOf Greatest low high = low
+nearOf Least low high = high
 
--- and the side that its upper edge meets
-abbrev pub farSide : Sense → ℕ
-farSide Greatest = 3
-farSide Least = 1
+abbrev pub farOf : {A : Type 0} → Sense → (low high : A) → A
+farOf Greatest low high = high
+farOf Least low high = low
 
 -- whether a position is in a list
 unfoldable pub listed : ℕ → List ℕ → Bool
@@ -46,10 +46,10 @@ withSides near far last w (r ∷ rs) l = withSides near far last w rs (withEnd l
 
 -- the rows that are tried: 0, the last one, and where the window meets a rectangle
 unfoldable pub candidates : Sense → List Rect → (n w : ℕ) → List ℕ
-candidates s rs n w = withSides (nearSide s) (farSide s) (n - w) w rs (withPosition (n - w) (n - w) (0 ∷ []))
+candidates s rs n w = withSides (nearOf s 1 3) (farOf s 1 3) (n - w) w rs (withPosition (n - w) (n - w) (0 ∷ []))
 
 -- the sides are two of a rectangle's four, and a list of `count` positions at the front of a buffer has room for two more for each rectangle
-pub record Listable (rects : List ℕ) (edges : Edges) (out : List ℕ) (count : ℕ) : Type 0 where
+pub record Listable (rects : List ℕ) (edges : ListedBy) (out : List ℕ) (count : ℕ) : Type 0 where
   pub near : edges .near < 4
   pub far : edges .far < 4
   pub room : 2 * count + length rects ≤ 2 * length out

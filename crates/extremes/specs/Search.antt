@@ -6,7 +6,6 @@ use mathlib.Core.List.{List, [], _∷_, _++_}
 use lib.Dec.{leb, ltb, eqb}
 use Rattle.geometry.specs.declared.Spot.{Spot}
 use Rattle.geometry.specs.declared.Sense.{Sense}
-use Rattle.geometry.specs.declared.Sense.the-variants.{Greatest, Least}
 use Rattle.geometry.specs.Extreme.{better, spotAt}
 use Rattle.geometry.specs.Sizes.{widest}
 use Rattle.geometry.specs.Layout.{rectsOf}
@@ -16,7 +15,7 @@ use Rattle.sweep.specs.Cursors.{frameAt}
 use Rattle.extremes.specs.declared.searching.Row.{Row}
 use Rattle.extremes.specs.declared.searching.Tried.{Tried}
 use Rattle.extremes.specs.Exact.{windowArea}
-use Rattle.extremes.specs.Listing.{candidates}
+use Rattle.extremes.specs.Listing.{nearOf, farOf, candidates}
 
 -- ---- the search among listed positions, in any order
 
@@ -33,17 +32,17 @@ abbrev pub leading : Sense → Spot → Spot → Spot
 leading s old new = elim (leads s new old) [ true ↦ new | false ↦ old ]
 
 -- what stands after each position of a list was taken in turn
-unfoldable pub passed : (ℕ → Spot → Spot) → List ℕ → Spot → Spot
-passed step [] b = b
-passed step (p ∷ l) b = passed step l (step p b)
+unfoldable pub folded : (ℕ → Spot → Spot) → List ℕ → Spot → Spot
+folded step [] b = b
+folded step (p ∷ l) b = folded step l (step p b)
 
 -- the leading one of the windows at (x, y), x in a list, where b stood before
 abbrev pub leadingInRow : Sense → (ℕ → ℕ → ℕ) → List ℕ → (y : ℕ) → Spot → Spot
-leadingInRow s f xs y b = passed (λ x b. leading s b (spotAt f x y)) xs b
+leadingInRow s f xs y b = folded (λ x b. leading s b (spotAt f x y)) xs b
 
 -- the leading one of the windows at (x, y), y in a list and x in the list of the row y, where b stood before
 abbrev pub leadingInRows : Sense → (ℕ → ℕ → ℕ) → (xs : ℕ → List ℕ) → (ys : List ℕ) → Spot → Spot
-leadingInRows s f xs ys b = passed (λ y b. leadingInRow s f (xs y) y b) ys b
+leadingInRows s f xs ys b = folded (λ y b. leadingInRow s f (xs y) y b) ys b
 
 -- ---- the positions that are tried in a row
 
@@ -56,15 +55,6 @@ unfoldable pub positionsOf : (shift last : ℕ) → List ℕ → List ℕ
 positionsOf shift last [] = []
 positionsOf shift last (v ∷ []) = []
 positionsOf shift last (v ∷ h ∷ s) = elim (isReached shift last v) [ true ↦ (v - shift) ∷ positionsOf shift last s | false ↦ positionsOf shift last s ]
-
--- the sides that the window's low and high edge meet at a first extreme
-abbrev pub nearOf : Sense → (lows highs : List ℕ) → List ℕ
-nearOf Greatest lows highs = lows
-nearOf Least lows highs = highs
-
-abbrev pub farOf : Sense → (lows highs : List ℕ) → List ℕ
-farOf Greatest lows highs = highs
-farOf Least lows highs = lows
 
 -- the positions that are tried in a row: 0, the last one, and where an edge of the window meets a side of its strip
 abbrev pub triedIn : Sense → (w last : ℕ) → (lows highs : List ℕ) → List ℕ

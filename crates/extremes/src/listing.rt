@@ -5,7 +5,7 @@ ghost use mathlib.Core.List.{[], _∷_};
 ghost use lib.ListN.{length, take};
 ghost use Rattle.buffers.specs.Written.{Front};
 ghost use Rattle.geometry.specs.Layout.{rectsOf};
-ghost use Rattle.extremes.specs.Listing.{nearSide, farSide, listed, withPosition, withEnd, withSides, candidates, Listable};
+ghost use Rattle.extremes.specs.Listing.{nearOf, farOf, listed, withPosition, withEnd, withSides, candidates, Listable};
 use geometry::Sense;
 
 // Whether a position is in a list.
@@ -62,7 +62,7 @@ fn add_rect(out: &mut [u64], count: usize, near: u64, far: u64, w: u64, last: u6
 // What the rows that are tried are listed by: the sides of a rectangle that the
 // window's lower and upper edges meet, by their places in a table, the window's
 // side, and the last position.
-struct Edges {
+struct ListedBy {
     near: usize,
     far: usize,
     w: u64,
@@ -70,7 +70,7 @@ struct Edges {
 }
 
 // Adds the positions at which the window meets a drawn rectangle.
-fn add_sides(rects: &[u64], edges: Edges, out: &mut [u64], count: usize) -> usize
+fn add_sides(rects: &[u64], edges: ListedBy, out: &mut [u64], count: usize) -> usize
     requires { ⌜ Listable (now rects) edges (now out) count ⌝ }
     ensures { λ r. ⌜ Front (now (out .entry)) (withSides (edges .near) (edges .far) (edges .last) (edges .w) (rectsOf (now (rects .entry))) (take count (now (out .entry)))) (now (out .exit)) r ⌝ }
 {
@@ -95,7 +95,7 @@ fn add_sides(rects: &[u64], edges: Edges, out: &mut [u64], count: usize) -> usiz
 // The side of a rectangle that the window's lower edge meets at a first extreme,
 // by its place in a table.
 fn near_side(sense: Sense) -> usize
-    ensures { λ r. ⌜ r ≡ nearSide sense ⌝ }
+    ensures { λ r. ⌜ r ≡ nearOf sense 1 3 ⌝ }
 {
     match sense {
         Sense::Greatest => 1,
@@ -105,7 +105,7 @@ fn near_side(sense: Sense) -> usize
 
 // And the side that its upper edge meets.
 fn far_side(sense: Sense) -> usize
-    ensures { λ r. ⌜ r ≡ farSide sense ⌝ }
+    ensures { λ r. ⌜ r ≡ farOf sense 1 3 ⌝ }
 {
     match sense {
         Sense::Greatest => 3,
@@ -132,5 +132,5 @@ pub(crate) fn list_rows(rects: &[u64], sense: Sense, n: u64, w: u64, out: &mut [
     let count = list_ends(last, out);
     let near = near_side(sense);
     let far = far_side(sense);
-    add_sides(rects, Edges { near, far, w, last }, out, count)
+    add_sides(rects, ListedBy { near, far, w, last }, out, count)
 }

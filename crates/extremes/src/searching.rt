@@ -6,7 +6,7 @@ ghost use mathlib.Core.List.{[], _∷_};
 ghost use lib.ListN.{length};
 ghost use Rattle.geometry.specs.Layout.{rectsOf};
 ghost use Rattle.sweep.specs.Strips.{stripRoom, Sides, Strip, Swept};
-ghost use Rattle.sweep.specs.Cursors.{Behind, Upright};
+ghost use Rattle.sweep.specs.Cursors.{Behind, ColumnsInOrder};
 ghost use Rattle.extremes.specs.Exact.{windowArea};
 ghost use Rattle.extremes.specs.Search.{earlier, leads, leading, leadingInRow};
 ghost use Rattle.extremes.specs.Search.{stripArea, triedAt, triedBy, positionsOf, triedIn, triedRow, SmallRow};
@@ -69,7 +69,7 @@ struct Tried {
 fn try_window(lows: &[u64], highs: &[u64], row: Row, x: u64, before: Tried) -> Tried
     requires { ⌜ Strip (now lows) (now highs) ⌝ }
     requires { ⌜ Behind (now lows) (now highs) (before .frame) x (x + row .w) ⌝ }
-    requires { ⌜ Upright x (x + row .w) ⌝ }
+    requires { ⌜ ColumnsInOrder x (x + row .w) ⌝ }
     ensures { λ r. ⌜ r ≡ triedAt (now (lows .entry)) (now (highs .entry)) row x (before .best) ⌝ }
 {
     let sense = row.sense;

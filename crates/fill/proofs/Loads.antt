@@ -18,7 +18,7 @@ use Rattle.geometry.proofs.Counting.{Inside, span-empty, box-cong, box-le, box-
 use Rattle.geometry.proofs.Overlaps.{area-small}
 use Rattle.sweep.specs.declared.Frame.{Frame}
 use Rattle.sweep.specs.Strips.{stripSum, StripOf}
-use Rattle.sweep.specs.Cursors.{frameAt, Upright}
+use Rattle.sweep.specs.Cursors.{frameAt, ColumnsInOrder}
 use Rattle.fill.specs.declared.Plan.{Plan}
 use Rattle.fill.specs.declared.Bound.{Bound}
 use Rattle.fill.specs.declared.Failing.{Failing}
@@ -141,7 +141,7 @@ module _ (lows highs amounts : List ℕ) (plan : Plan) (j i : ℕ) (z : RowTiled
   pub tile-right : (i + 1) * plan .side ≤ widest
   tile-right = omega (arith, z .layout, mul-le-mul-right {m = i + 1} {n = plan .across} (plan .side) (omega arith))
 
-  pub tile-upright : Upright (i * plan .side) ((i + 1) * plan .side)
+  pub tile-upright : ColumnsInOrder (i * plan .side) ((i + 1) * plan .side)
   tile-upright = record { order = tile-end (plan .side) i; small = tile-right }
 
   pub place-inside : j * plan .across + i < plan .across * plan .across

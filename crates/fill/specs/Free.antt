@@ -1,5 +1,5 @@
 -- What the code counts in place of eligible squares, and the boxes that it cuts. A buyer need not read it: proofs/Grown.antt shows that the
--- squares outside the grown rectangles are the eligible ones.
+-- squares outside the grown rectangles are the eligible ones, and proofs/Near.antt that a part of a table is enough for a box.
 use Prim.Native.Nat.{ℕ, _+_, _-_, _*_, _≤_, _<_, min, max}
 use mathlib.Core.Path.{_≡_}
 use mathlib.Core.Bool.{Bool, false, not, _&&_, _||_}
@@ -70,7 +70,7 @@ pub record Within (m b : Rect) : Type 0 where
 abbrev pub heldFrom : (gap : ℕ) (table : List ℕ) (i : ℕ) → (x y : ℕ) → Bool
 heldFrom gap table i x y = covered (grownAll gap (rectsOf (drop i table))) x y
 
--- the rectangles from place i to before place k hold no square of the box
+-- of the squares of the box, the rectangles from place k on hold those that the rectangles from place i on hold
 pub record Skipped (gap : ℕ) (table : List ℕ) (i : ℕ) (b : Rect) (k : ℕ) : Type 0 where
   pub onward : i ≤ k
   pub within : k ≤ length table

@@ -1,4 +1,4 @@
--- The sums and the one search that the code forms for the verdict. A buyer need not read them: proofs/Loads.antt shows that they give
+-- The sums and the one search that the code forms for the verdict. A buyer need not read them: proofs/Loads.antt and Summing.antt show that they give
 -- `verdictOf`. Standard windows are searched with a margin of 0 tiles, bloated and shrunk ones with a margin of 1.
 use Prim.Native.Nat.{ℕ, suc, _+_, _-_, _*_, _/_, _%_, _≤_, _<_, min}
 use mathlib.Core.Path.{_≡_}

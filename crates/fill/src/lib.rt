@@ -80,8 +80,9 @@ pub fn fillable(rects: &[u64], near: Part, gap: u64, b: Rect) -> u64
     free::free_from(&rects[from..to], gap, 0, b)
 }
 
-// The part of a table that comes near a box, and so is enough for every box
-// inside. It is short near a row of tiles, where the table goes by rows.
+// A part of a table that is enough for a box and for every box inside: from the
+// first to the last rectangle that comes near. The contract leaves open which part
+// it is, since every one that serves gives the same areas.
 pub fn part_near(rects: &[u64], gap: u64, b: Rect) -> Part
     requires { ⌜ SmallBox (now rects) gap b ⌝ }
     ensures { λ p. ⌜ Serves gap (now (rects .entry)) b p ⌝ }

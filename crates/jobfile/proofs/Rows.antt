@@ -1,5 +1,5 @@
 -- The part of the rectangles' table that is kept at hand for a row of tiles: it is enough for every tile of the row.
-use Prim.Native.Nat.{ℕ, suc, _+_, _*_, _≤_, _<_}
+use Prim.Native.Nat.{ℕ, suc, _+_, _*_, _≤_}
 use mathlib.Core.Path.{_≡_, refl, sym, ap, _∙_, subst}
 use mathlib.Core.Bool.{Bool, true, false}
 use mathlib.Core.List.{List}
@@ -9,7 +9,6 @@ use lib.Dec.{eqb, lit≤}
 use lib.ListN.{length, take}
 use borrow.Author.Tests.{eq-eqb, ne-eqb, eqb-true}
 use Rattle.geometry.specs.declared.Rect.{Rect}
-use Rattle.geometry.specs.Sizes.{widest}
 use Rattle.fill.specs.declared.Part.{Part}
 use Rattle.fill.specs.Eligible.{tile}
 use Rattle.fill.specs.Free.{Serves}
@@ -20,7 +19,7 @@ use Rattle.jobfile.specs.declared.Near.{Near}
 use Rattle.jobfile.specs.declared.Near.the-variants.{NoRow, Row}
 use Rattle.jobfile.specs.declared.State.{State}
 use Rattle.jobfile.specs.Limits.{unitLimits}
-use Rattle.jobfile.specs.Forms.{tileSide, tilesAcross}
+use Rattle.jobfile.specs.Forms.{tileSide}
 use Rattle.jobfile.specs.Held.{GoodHead, TileIn, rowBox, NearHeld, isRow, partFor, RowAsked}
 use Rattle.jobfile.proofs.Heads.{HeadFacts, head-facts, tile-end}
 

@@ -85,7 +85,7 @@ abbrev pub partFor : Near → (row all : ℕ) → Part
 partFor NoRow row all = record { from = 0; to = all }
 partFor (Row j p) row all = elim (eqb j row) [ true ↦ p | false ↦ record { from = 0; to = all } ]
 
--- a state and its tables hold what stands: 0 behind the rectangles and behind the amounts
+-- a state and its tables hold what stands: 0 behind the rectangles and behind the amounts; and the part at hand is enough for its row
 pub record Held (s : State) (rects amounts : List ℕ) : Type 0 where
   pub room : length rects ≡ shapesRoom
   pub amounts-room : length amounts ≡ amountsRoom

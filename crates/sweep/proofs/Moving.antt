@@ -18,7 +18,7 @@ use Rattle.sweep.specs.declared.Cursor.{Cursor}
 use Rattle.sweep.specs.declared.Edges.{Edges}
 use Rattle.sweep.specs.declared.Frame.{Frame}
 use Rattle.sweep.specs.Strips.{sideSum, ramps, stripSum, Rising, Sides, Strip}
-use Rattle.sweep.specs.Cursors.{leftSum, cursorAt, isLeft, StandsBefore, edgesAt, EdgesBefore, frameAt, noSides, startFrame, TrueArea, Behind, Upright}
+use Rattle.sweep.specs.Cursors.{leftSum, cursorAt, isLeft, StandsBefore, edgesAt, EdgesBefore, frameAt, noSides, startFrame, TrueArea, Behind, ColumnsInOrder}
 use Rattle.sweep.proofs.Sums.{ramps-formed, rising-weaken, none-left, left-of, passedAt, left-split, rising-passed, passed-within, sum-small, left-small}
 
 -- ---- whether a side is left of a column
@@ -170,7 +170,7 @@ edges-before s e l r left right q h k u z =
       at-right = record { column = r; is = ap (λ (e : Edges). e .right) q; earlier = k; small = z };
     }
 
-module _ (lows highs : List ℕ) (f : Frame) (left right : ℕ) (b : Behind lows highs f left right) (u : Upright left right) where
+module _ (lows highs : List ℕ) (f : Frame) (left right : ℕ) (b : Behind lows highs f left right) (u : ColumnsInOrder left right) where
   pub low-before : EdgesBefore lows (f .low) left right
   low-before =
       edges-before lows (f .low) (f .left) (f .right) left right (ap (λ (f : Frame). f .low) (b .is)) (b .left-earlier) (b .right-earlier) (u .order) (u .small)
@@ -197,7 +197,7 @@ module _ (lows highs : List ℕ) (left right : ℕ) (low high : Edges) (e : low 
       record { left = left; right = right; area = low .right .ramps + high .left .ramps - (low .left .ramps + high .right .ramps); low = low; high = high })
       e f
 
-  module _ (s : Strip lows highs) (u : Upright left right) where
+  module _ (s : Strip lows highs) (u : ColumnsInOrder left right) where
     pub gained-fits : low .right .ramps + high .left .ramps ≤ 2 * (largest * (2 * mostRects))
     gained-fits = omega (arith, edge-ramps lows left right low e .1, edge-ramps highs left right high f .0, ramps-small lows right (s .low) (u .small), ramps-small highs left (s .high) (omega (arith, u .order, u .small)))
 

@@ -70,6 +70,6 @@ pub record Behind (lows highs : List ℕ) (f : Frame) (left right : ℕ) : Type 
   pub right-earlier : f .right ≤ right
 
 -- two columns in their order, no larger than a layout
-pub record Upright (left right : ℕ) : Type 0 where
+pub record ColumnsInOrder (left right : ℕ) : Type 0 where
   pub order : left ≤ right
   pub small : right ≤ widest

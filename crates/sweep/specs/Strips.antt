@@ -14,7 +14,7 @@ use Rattle.sweep.specs.declared.Side.{Side}
 use Rattle.sweep.specs.declared.Side.the-variants.{Low, High}
 use Rattle.sweep.specs.Order.{columnOn, placesBy, sideOrder}
 
--- the numbers of so many sides, as `STRIP_ROOM` in src/
+-- the numbers of a strip's sides of one kind, two for each of 1,024 rectangles, as `STRIP_ROOM` in src/
 abbrev pub stripRoom : ℕ
 stripRoom = 2 * mostRects
 
@@ -45,7 +45,7 @@ sideSum g (v ∷ h ∷ s) = g v h + sideSum g s
 abbrev pub ramps : List ℕ → ℕ → ℕ
 ramps s x = sideSum (λ v h. h * (x - v)) s
 
--- what a strip covers between two columns: its low sides' ramps less its high sides', at the one column less the other
+-- what a strip covers between two columns: its low sides' ramps less its high sides', at x2 less at x1
 abbrev pub stripSum : (lows highs : List ℕ) → (x1 x2 : ℕ) → ℕ
 stripSum lows highs x1 x2 = ramps lows x2 + ramps highs x1 - (ramps lows x1 + ramps highs x2)
 

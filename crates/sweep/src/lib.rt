@@ -16,7 +16,7 @@ ghost use Rattle.buffers.specs.Written.{Front};
 ghost use Rattle.sweep.specs.declared.Side.the-variants.{Low, High};
 ghost use Rattle.sweep.specs.Order.{sideOrder};
 ghost use Rattle.sweep.specs.Strips.{stripRoom, stripSides, Strip, Swept, StripOf};
-ghost use Rattle.sweep.specs.Cursors.{startFrame, frameAt, TrueArea, Behind, Upright};
+ghost use Rattle.sweep.specs.Cursors.{startFrame, frameAt, TrueArea, Behind, ColumnsInOrder};
 use geometry::MOST_RECTS;
 
 // Room for the places of the low sides and those of the high sides, and for the
@@ -120,11 +120,12 @@ pub fn start_frame() -> Frame
 }
 
 // Moves a box to the right, each of its edges by itself: from the true area at one
-// place to the true area at the next.
+// place, which `Behind` asks for, to the true area at the next. Only the sides that
+// its edges pass are added.
 pub fn move_to(lows: &[u64], highs: &[u64], from: Frame, left: u64, right: u64) -> Frame
     requires { ⌜ Strip (now lows) (now highs) ⌝ }
     requires { ⌜ Behind (now lows) (now highs) from left right ⌝ }
-    requires { ⌜ Upright left right ⌝ }
+    requires { ⌜ ColumnsInOrder left right ⌝ }
     ensures { λ r. ⌜ r ≡ frameAt (now (lows .entry)) (now (highs .entry)) left right ⌝ }
     ensures { λ r. ⌜ TrueArea (now (lows .entry)) (now (highs .entry)) r ⌝ }
 {

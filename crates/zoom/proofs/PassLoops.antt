@@ -24,7 +24,7 @@ use Rattle.zoom.specs.Sizes.{startsRoom, levelRoom, keptRoom}
 use Rattle.zoom.specs.Grid.{Sized}
 use Rattle.zoom.specs.Passing.{flagAbove, Spares, HarmlessRow, flagOf, flagsInRow, flagsInRows}
 use Rattle.zoom.specs.Weighing.{betterArea, weighed, farInRow, farInRows, Weighable}
-use Rattle.zoom.specs.Passes.{withNamed, looked, flagged, spared, passInRow, passInRows, flagsPassed, flagsPassedRows, Lookable}
+use Rattle.zoom.specs.Passes.{withNamed, looked, flagged, passedOver, passInRow, passInRows, flagsPassed, flagsPassedRows, Lookable}
 use Rattle.zoom.proofs.Folds.{no-better-trans, area-better, area-skip, area-stays, row-stays, rows-stay}
 use Rattle.zoom.proofs.Starts.{start-fits}
 
@@ -297,7 +297,7 @@ pass-looks Far s f t y at i before after new new′ z area r l q e k =
 pub pass-skips : (p : Pass) (s : Sense) (f : ℕ → ℕ → ℕ) (t y at i : ℕ) (before after : Level) (new new′ : List ℕ) →
     PassSoFar p s f t y at i before after new new′ → (k : ℕ) (flags : List ℕ) (stride j : ℕ) (l : List ℕ) →
     Spares s (λ x. f x y) t k flags stride j (before .named .area) → i < k → k ≤ startsRoom → flagAbove flags stride i j ≡ 1 → Lookable p s levelRoom before →
-    l ≡ spared p (at + i) new′ → PassSoFar p s f t y at (i + 1) before after new l
+    l ≡ passedOver p (at + i) new′ → PassSoFar p s f t y at (i + 1) before after new l
 pass-skips Standard s f t y at i before after new new′ z k flags stride j l spare h few e w q =
     record {
       search =

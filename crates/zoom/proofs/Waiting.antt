@@ -7,7 +7,7 @@ use native.Mathlib.Omega.{arith}
 use Rattle.geometry.specs.declared.Sense.{Sense}
 use Rattle.geometry.specs.declared.Sense.the-variants.{Greatest, Least}
 use Rattle.sweep.specs.declared.Frame.{Frame}
-use Rattle.sweep.specs.Cursors.{frameAt, Behind, Upright}
+use Rattle.sweep.specs.Cursors.{frameAt, Behind, ColumnsInOrder}
 use Rattle.zoom.specs.declared.Grid.{Grid}
 use Rattle.zoom.specs.Sizes.{spanRoom}
 use Rattle.zoom.specs.Spans.{spanFrom, spanTo, OnRow}
@@ -46,7 +46,7 @@ module _ (g : Grid) (u i : ℕ) where
   to-next = to-grows (g .sense) (g .n) (g .w) u (i * g .t) ((i + 1) * g .t) further
 
   pub window-upright : (left right : ℕ) → OnRow g u i → left ≡ spanFrom (g .sense) u (i * g .t) → right ≡ spanTo (g .sense) (g .n) (g .w) u (i * g .t) →
-      Upright left right
+      ColumnsInOrder left right
   window-upright left right o p q =
       record {
         order = omega (arith, p, q, span-upright (g .sense) (g .n) (g .w) u (i * g .t) (o .step-fits) inside);

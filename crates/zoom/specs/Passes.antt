@@ -42,9 +42,9 @@ abbrev pub flagged : Pass → Sense → (best at area : ℕ) → List ℕ → Li
 flagged Standard s best at area l = l
 flagged Far s best at area l = set l at (flagOf s best area)
 
-abbrev pub spared : Pass → (at : ℕ) → List ℕ → List ℕ
-spared Standard at l = l
-spared Far at l = set l at 1
+abbrev pub passedOver : Pass → (at : ℕ) → List ℕ → List ℕ
+passedOver Standard at l = l
+passedOver Far at l = set l at 1
 
 -- after the first k starts of the row at y, and after the first m rows of k starts each
 abbrev pub passInRow : Pass → Sense → (ℕ → ℕ → ℕ) → (t y k : ℕ) → Level → Level

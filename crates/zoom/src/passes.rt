@@ -10,7 +10,7 @@ ghost use Rattle.zoom.specs.Sizes.{levelRoom, keptRoom};
 ghost use Rattle.zoom.specs.Spans.{spanFrom, spanTo, alongStrip, OnRow};
 ghost use Rattle.zoom.specs.Passing.{flagOf, Passable, RowPassable};
 ghost use Rattle.zoom.specs.Weighing.{betterArea, weighed, Weighable};
-ghost use Rattle.zoom.specs.Passes.{stepOf, areaOn, looked, flagged, spared, passInRow, passInRows, flagsPassed, flagsPassedRows, Lookable, StripPassable};
+ghost use Rattle.zoom.specs.Passes.{stepOf, areaOn, looked, flagged, passedOver, passInRow, passInRows, flagsPassed, flagsPassedRows, Lookable, StripPassable};
 use crate::Grid;
 use crate::Level;
 use crate::Pass;
@@ -74,7 +74,7 @@ fn look(pass: Pass, sense: Sense, new: &mut [u8], at: u64, seen: Spot, before: L
 
 // One start that is passed over: the next level passes over those below it too.
 fn pass_over(pass: Pass, new: &mut [u8], at: u64)
-    ensures { λ _. ⌜ now (new .exit) ≡ spared pass at (now (new .entry)) ⌝ }
+    ensures { λ _. ⌜ now (new .exit) ≡ passedOver pass at (now (new .entry)) ⌝ }
 {
     match pass {
         Pass::Standard => {}

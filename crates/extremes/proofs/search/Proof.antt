@@ -10,7 +10,7 @@ use Rattle.geometry.specs.Extreme.{spotAt}
 use Rattle.sweep.specs.Strips.{stripRoom}
 use Rattle.extremes.specs.Exact.{windowArea}
 use Rattle.extremes.specs.Search.{leadingInRows, triedRow}
-use Rattle.extremes.proofs.Steps.{small-at, rows-start, passed-next, passed-end}
+use Rattle.extremes.proofs.Steps.{small-at, rows-start, folded-next, folded-end}
 use Rattle.extremes.proofs.search.Statement.{statement}
 use Rattle.extremes.proofs.search.Tie as tie
 
@@ -44,7 +44,7 @@ loop-again c =
     let at = c .before .before .before .before .before .before .before .loop in
     let more = c .before .before .before .before .before .before .loop-test .taken in
     let row = c .before .before .search-row in
-    (omega arith, row .kept .1 .1 .1 .1 .0 ∙ at .inv .1, row .kept .1 .1 .1 .1 .1 .0 ∙ at .inv .2, passed-next _ _ _ _ _ (at .inv .3) _ more (row .ensures))
+    (omega arith, row .kept .1 .1 .1 .1 .0 ∙ at .inv .1, row .kept .1 .1 .1 .1 .1 .0 ∙ at .inv .2, folded-next _ _ _ _ _ (at .inv .3) _ more (row .ensures))
 
 pub search-spec : {M : Type 1} → statement M
 search-spec =
@@ -63,4 +63,4 @@ search-spec =
     (λ c. search needs)
     (λ c. search needs)
     loop-again
-    (λ c. search passed-end))
+    (λ c. search folded-end))

@@ -1,7 +1,6 @@
 -- `fill::free::next_near` meets its contract. The loop's invariant: the rectangles before the place miss the box. The measure is what is left of
 -- the table. Assumes nothing.
 use Prim.Native.Nat.{_-_}
-use native.Mathlib.Omega.{arith}
 use borrow.Author.Needs.{needs}
 use lib.ListN.{length}
 use Rattle.fill.specs.Free.{Skipped}
