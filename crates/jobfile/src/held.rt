@@ -4,19 +4,17 @@ use crate::Head;
 use crate::Near;
 use crate::State;
 use crate::Turn;
-use crate::forms::tile_side;
 use crate::forms::tiles_across;
-use fill::Part;
-use fill::part_near;
+use crate::parts::near_row;
 use geometry::Rect;
 ghost use mathlib.Core.Path.{_≡_};
 ghost use Prim.Native.Nat.{_+_, _*_, _≤_, _<_};
-ghost use lib.ListN.{length, set, take};
+ghost use lib.ListN.{length, set};
 ghost use Rattle.fill.specs.Judge.{tileIndex};
 ghost use Rattle.jobfile.specs.Limits.{unitLimits};
 ghost use Rattle.jobfile.specs.Forms.{tilesAcross};
 ghost use Rattle.jobfile.specs.Faults.{noHead, lineFault};
-ghost use Rattle.jobfile.specs.Held.{standing, Held, TileIn, partFor, isRow, NearHeld, RowAsked, withShape, Entered};
+ghost use Rattle.jobfile.specs.Held.{standing, Held, TileIn, withShape, Entered};
 
 // Before the head.
 pub(crate) fn no_head() -> Head
@@ -63,51 +61,6 @@ fn store_amount(amounts: &mut [u64], h: Head, i: u64, j: u64, p: u64)
 {
     let at = tile_place(h, i, j);
     amounts[at] = p;
-}
-
-// The part of the table that is enough for the tiles of a row: the one at hand, if
-// it is that row's, else all of the table.
-pub(crate) fn part_for(near: Near, row: u64, all: usize) -> Part
-    ensures { λ r. ⌜ r ≡ partFor near row all ⌝ }
-{
-    let whole = Part { from: 0, to: all };
-    match near {
-        Near::NoRow => whole,
-        Near::Row(j, part) => { if j == row { part } else { whole } }
-    }
-}
-
-fn is_row(near: Near, row: u64) -> bool
-    ensures { λ r. ⌜ r ≡ isRow near row ⌝ }
-{
-    match near {
-        Near::NoRow => false,
-        Near::Row(j, _) => j == row,
-    }
-}
-
-// The part of the table for a row of tiles, kept where it is at hand.
-fn near_row(s: State, rects: &[u64], row: u64) -> Near
-    requires { ⌜ RowAsked s (now rects) row ⌝ }
-    ensures { λ r. ⌜ NearHeld (s .head) (take (4 * s .count) (now (rects .entry))) r ⌝ }
-{
-    let near = s.near;
-    let head = s.head;
-    let count = s.count;
-    if is_row(near, row) {
-        return near;
-    }
-    let end = 4 * count;
-    let side = tile_side(head);
-    let low = row * side;
-    let b = Rect {
-        x1: 0,
-        y1: low,
-        x2: head.size,
-        y2: low + side,
-    };
-    let part = part_near(&rects[..end], head.gap, b);
-    Near::Row(row, part)
 }
 
 // Enters a good line.

@@ -3,6 +3,7 @@ mod faults;
 mod forms;
 mod held;
 mod limits;
+mod parts;
 mod reader;
 
 use fill::Part;

@@ -1,11 +1,11 @@
--- `jobfile::held::near_row` meets its contract: the part at hand is the row's, or the one that is found is enough for it. Assumes nothing.
+-- `jobfile::parts::near_row` meets its contract: the part at hand is the row's, or the one that is found is enough for it. Assumes nothing.
 use mathlib.Core.Path.{sym}
 use native.Mathlib.Omega.{arith}
 use borrow.Author.Needs.{needs}
 use lib.Seq.{length-take-le}
 use Rattle.jobfile.proofs.Rows.{row-end, row-small, row-served}
-use Rattle.jobfile.proofs.held.near_row.Statement.{statement}
-use Rattle.jobfile.proofs.held.near_row.Tie as tie
+use Rattle.jobfile.proofs.parts.near_row.Statement.{statement}
+use Rattle.jobfile.proofs.parts.near_row.Tie as tie
 
 row-fits : tie.Need-add-t13
 row-fits c =

@@ -1,0 +1,57 @@
+// The part of the rectangles' table that is kept for a row of tiles, so that the
+// fills of a row are counted by the rectangles that come near it.
+use crate::Near;
+use crate::State;
+use crate::forms::tile_side;
+use fill::Part;
+use fill::part_near;
+use geometry::Rect;
+ghost use mathlib.Core.Path.{_≡_};
+ghost use Prim.Native.Nat.{_*_};
+ghost use lib.ListN.{take};
+ghost use Rattle.jobfile.specs.Held.{isRow, partFor, NearHeld, RowAsked};
+
+// The part of the table that is enough for the tiles of a row: the one at hand, if
+// it is that row's, else all of the table.
+pub(crate) fn part_for(near: Near, row: u64, all: usize) -> Part
+    ensures { λ r. ⌜ r ≡ partFor near row all ⌝ }
+{
+    let whole = Part { from: 0, to: all };
+    match near {
+        Near::NoRow => whole,
+        Near::Row(j, part) => { if j == row { part } else { whole } }
+    }
+}
+
+fn is_row(near: Near, row: u64) -> bool
+    ensures { λ r. ⌜ r ≡ isRow near row ⌝ }
+{
+    match near {
+        Near::NoRow => false,
+        Near::Row(j, _) => j == row,
+    }
+}
+
+// The part of the table for a row of tiles, kept where it is at hand.
+pub(crate) fn near_row(s: State, rects: &[u64], row: u64) -> Near
+    requires { ⌜ RowAsked s (now rects) row ⌝ }
+    ensures { λ r. ⌜ NearHeld (s .head) (take (4 * s .count) (now (rects .entry))) r ⌝ }
+{
+    let near = s.near;
+    let head = s.head;
+    let count = s.count;
+    if is_row(near, row) {
+        return near;
+    }
+    let end = 4 * count;
+    let side = tile_side(head);
+    let low = row * side;
+    let b = Rect {
+        x1: 0,
+        y1: low,
+        x2: head.size,
+        y2: low + side,
+    };
+    let part = part_near(&rects[..end], head.gap, b);
+    Near::Row(row, part)
+}
