@@ -26,6 +26,9 @@ front-fits before w after r p = omega (arith, p .count, ap length (p .buffer), l
 pub front-count : (before w after : List ℕ) (r : ℕ) → Front before w after r → r ≡ length (take r after)
 front-count before w after r p = p .count ∙ ap length (sym (front-take before w after r p))
 
+pub front-part : (before w after : List ℕ) (a r : ℕ) → Front before w after r → a ≤ r → a ≡ length (take a after)
+front-part before w after a r p h = sym (length-take-le a after (omega (arith, front-fits before w after r p)))
+
 pub front-chain : (before l mid m after : List ℕ) (k r : ℕ) → Front before l mid k → Front mid m after r → length l ≤ length m → Front before m after r
 front-chain before l mid m after k r f g h = record { count = g .count; buffer = g .buffer ∙ ap (λ (t : List ℕ). m ++ t) rest }
   where
@@ -40,6 +43,18 @@ front-chain before l mid m after k r f g h = record { count = g .count; buffer =
 -- what stands behind a place, as a part of a buffer
 pub part-from : (l : List ℕ) (a : ℕ) → take (length l - a) (drop a l) ≡ drop a l
 part-from l a = take-all (length l - a) (drop a l) (omega (arith, length-drop a l))
+
+pub front-behind : (before w mid : List ℕ) (r : ℕ) → Front before w mid r → length (take (length mid - r) (drop r mid)) ≡ length before - r
+front-behind before w mid r f =
+    omega (
+      arith,
+      ap length (part-from mid r),
+      length-drop r mid,
+      ap length (f .buffer),
+      length-append w (drop (length w) before),
+      length-drop (length w) before,
+      f .count,
+    )
 
 -- a second list written behind the first, at the front of the part that begins there
 pub front-then : (before u mid w part : List ℕ) (a b : ℕ) → Front before u mid a → Front (take (length mid - a) (drop a mid)) w part b →
@@ -56,6 +71,19 @@ front-then before u mid w part a b f g =
   where
     behind : drop a mid ≡ drop (length u) before
     behind = ap (drop a) (f .buffer) ∙ drop-at u (drop (length u) before) a (sym (f .count))
+
+-- and the two lists again, as parts of the buffer
+module _ (before u w after : List ℕ) (a r : ℕ) (f : Front before (u ++ w) after r) (e : a ≡ length u) where
+  whole : after ≡ u ++ (w ++ drop (length (u ++ w)) before)
+  whole = f .buffer ∙ append-assoc u w (drop (length (u ++ w)) before)
+
+  pub front-first : take a after ≡ u
+  front-first = ap (take a) whole ∙ take-at u (w ++ drop (length (u ++ w)) before) a (sym e)
+
+  pub front-second : take (r - a) (drop a after) ≡ w
+  front-second =
+      ap (take (r - a)) (ap (drop a) whole ∙ drop-at u (w ++ drop (length (u ++ w)) before) a (sym e))
+      ∙ take-at w (drop (length (u ++ w)) before) (r - a) (omega (arith, f .count, length-append u w))
 
 -- ---- a list that a loop over a table writes at the front of a buffer
 

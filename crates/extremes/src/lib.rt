@@ -50,8 +50,7 @@ fn search(rects: &[u64], order: &[usize], n: u64, w: u64, sense: Sense, ys: &[u6
     ensures { λ r. ⌜ r ≡ leadingInRows sense (windowArea (rectsOf (now (rects .entry))) w) (triedRow sense w (n - w) (now (rects .entry))) (now (ys .entry)) (spotAt (windowArea (rectsOf (now (rects .entry))) w) 0 0) ⌝ }
 {
     let last = n - w;
-    let mut lows = [0u64; STRIP_ROOM];
-    let mut highs = [0u64; STRIP_ROOM];
+    let mut sides = [0u64; STRIP_ROOM];
     let mut best = first_window(rects, w);
     let mut i: usize = 0;
     while i < ys.len() {
@@ -61,7 +60,7 @@ fn search(rects: &[u64], order: &[usize], n: u64, w: u64, sense: Sense, ys: &[u6
             last,
             y: ys[i],
         };
-        best = searching::search_row(rects, order, row, best, &mut lows, &mut highs);
+        best = searching::search_row(rects, order, row, best, &mut sides);
         i += 1;
     }
     best

@@ -171,16 +171,16 @@ pub(crate) fn search_row(
     order: &[usize],
     row: Row,
     best: Spot,
-    lows: &mut [u64],
-    highs: &mut [u64],
+    sides: &mut [u64],
 ) -> Spot
     requires { ⌜ Swept (now rects) (now order) ⌝ }
     requires { ⌜ SmallRow row ⌝ }
-    requires { ⌜ (stripRoom ≤ length (now lows)) × (stripRoom ≤ length (now highs)) ⌝ }
+    requires { ⌜ stripRoom ≤ length (now sides) ⌝ }
     ensures { λ r. ⌜ r ≡ leadingInRow (row .sense) (windowArea (rectsOf (now (rects .entry))) (row .w)) (triedRow (row .sense) (row .w) (row .last) (now (rects .entry)) (row .y)) (row .y) best ⌝ }
 {
-    let lengths = sweep::strip(rects, order, row.y, row.y + row.w, lows, highs);
+    let lengths = sweep::strip(rects, order, row.y, row.y + row.w, sides);
     let low = lengths.low;
-    let high = lengths.high;
-    search_strip(&lows[..low], &highs[..high], row, best)
+    let both = lengths.both;
+    let strip = &sides[..];
+    search_strip(&strip[..low], &strip[low..both], row, best)
 }

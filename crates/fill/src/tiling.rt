@@ -35,20 +35,21 @@ fn set_row_at(
     plan: Plan,
     j: u64,
     out: &mut [u64],
-    lows: &mut [u64],
-    highs: &mut [u64],
+    sides: &mut [u64],
 )
     requires { ⌜ Tiled (now rects) (now amounts) plan ⌝ }
     requires { ⌜ Swept (now rects) (now order) × (j < plan .across) ⌝ }
     requires { ⌜ plan .across * plan .across ≤ length (now out) ⌝ }
-    requires { ⌜ (stripRoom ≤ length (now lows)) × (stripRoom ≤ length (now highs)) ⌝ }
+    requires { ⌜ stripRoom ≤ length (now sides) ⌝ }
     ensures { λ _. ⌜ Filled (loadOf (rectsOf (now (rects .entry))) (now (amounts .entry)) plan) (now (out .entry)) (now (out .exit)) (j * plan .across) (suc j * plan .across) ⌝ }
 {
-    let low = j * plan.side;
-    let lengths = sweep::strip(rects, order, low, low + plan.side, lows, highs);
-    let count = lengths.low;
-    let more = lengths.high;
-    set_row(&lows[..count], &highs[..more], amounts, plan, j, out);
+    let y1 = j * plan.side;
+    let y2 = y1 + plan.side;
+    let lengths = sweep::strip(rects, order, y1, y2, sides);
+    let low = lengths.low;
+    let both = lengths.both;
+    let strip = &sides[..];
+    set_row(&strip[..low], &strip[low..both], amounts, plan, j, out);
 }
 
 // Writes the load of each tile at the front of a table, row by row.
@@ -64,11 +65,10 @@ pub(crate) fn set_loads(
     requires { ⌜ plan .across * plan .across ≤ length (now out) ⌝ }
     ensures { λ _. ⌜ Filled (loadOf (rectsOf (now (rects .entry))) (now (amounts .entry)) plan) (now (out .entry)) (now (out .exit)) 0 (plan .across * plan .across) ⌝ }
 {
-    let mut lows = [0u64; STRIP_ROOM];
-    let mut highs = [0u64; STRIP_ROOM];
+    let mut sides = [0u64; STRIP_ROOM];
     let mut j: u64 = 0;
     while j < plan.across {
-        set_row_at(rects, order, amounts, plan, j, out, &mut lows, &mut highs);
+        set_row_at(rects, order, amounts, plan, j, out, &mut sides);
         j += 1;
     }
 }

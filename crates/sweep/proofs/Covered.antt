@@ -11,7 +11,7 @@ use borrow.Author.Tests.{lt-ltb, le-ltb}
 use Rattle.laws.proofs.Tests.{le-or-lt}
 use Rattle.buffers.specs.Written.{Written, Front}
 use Rattle.buffers.proofs.Writing.{two-stored, none-stored}
-use Rattle.buffers.proofs.Fronts.{FrontSoFar, front-moves, front-ends, front-take}
+use Rattle.buffers.proofs.Fronts.{FrontSoFar, front-moves, front-ends, front-behind, front-first, front-second}
 use Rattle.geometry.specs.declared.Rect.{Rect}
 use Rattle.geometry.specs.Sizes.{widest}
 use Rattle.geometry.specs.Count.{one-if, rectSum}
@@ -22,7 +22,7 @@ use Rattle.geometry.proofs.Overlaps.{overlap-is-area}
 use Rattle.sweep.specs.declared.Side.{Side}
 use Rattle.sweep.specs.declared.Side.the-variants.{Low, High}
 use Rattle.sweep.specs.Order.{column, columnOn, placesBy}
-use Rattle.sweep.specs.Strips.{sidePart, rowsOn, sidesAt, stripSides, sideSum, ramps, Rising, Sides, StripOf}
+use Rattle.sweep.specs.Strips.{sidesRoom, stripRoom, sidePart, rowsOn, sidesAt, stripSides, sideSum, ramps, Rising, Sides, StripOf}
 use Rattle.sweep.proofs.Sums.{rising-weaken}
 use Rattle.sweep.proofs.Sorted.{Ascending, placeSum, places-sum, ordered-ascends, ordered-length}
 
@@ -202,7 +202,18 @@ strip-of t y1 y2 d =
       areas = λ x1 x2 h. omega (arith, strip-area t y1 y2 d x1 x2 h);
     }
 
-pub strip-lent : (t : List ℕ) (y1 y2 : ℕ) (lb la hb ha : List ℕ) (l h : ℕ) → Drawn t → Front lb (stripSides t Low y1 y2) la l →
-    Front hb (stripSides t High y1 y2) ha h → StripOf t y1 y2 (take l la) (take h ha)
-strip-lent t y1 y2 lb la hb ha l h d p q =
-    rw (front-take lb (stripSides t Low y1 y2) la l p, front-take hb (stripSides t High y1 y2) ha h q) (strip-of t y1 y2 d)
+-- written at the front of a buffer that has room for both kinds of sides
+module _ (t : List ℕ) (side : Side) (y1 y2 : ℕ) (places before after : List ℕ) (r : ℕ) (p : Front before (sidesAt t side y1 y2 places) after r)
+    (few : 2 * length places ≤ sidesRoom) where
+  pub sides-count : r ≤ sidesRoom
+  sides-count = omega (arith, p .count, sides-few t side y1 y2 places)
+
+  pub room-behind : (n : ℕ) → n ≤ sidesRoom → stripRoom ≤ length before → n ≤ length (take (length after - r) (drop r after))
+  room-behind n h room = omega (arith, sides-count, front-behind before (sidesAt t side y1 y2 places) after r p)
+
+pub strip-lent : (t : List ℕ) (y1 y2 : ℕ) (before after : List ℕ) (low both : ℕ) → Drawn t → low ≡ length (stripSides t Low y1 y2) →
+    Front before (stripSides t Low y1 y2 ++ stripSides t High y1 y2) after both →
+    StripOf t y1 y2 (take low after) (take (both - low) (drop low after))
+strip-lent t y1 y2 before after low both d e p =
+    rw (front-first before (stripSides t Low y1 y2) (stripSides t High y1 y2) after low both p e, front-second before (stripSides t Low y1 y2) (stripSides t High y1 y2) after low both p e)
+    (strip-of t y1 y2 d)

@@ -14,9 +14,13 @@ use Rattle.sweep.specs.declared.Side.{Side}
 use Rattle.sweep.specs.declared.Side.the-variants.{Low, High}
 use Rattle.sweep.specs.Order.{columnOn, placesBy, sideOrder}
 
--- the numbers of a strip's sides of one kind, two for each of 1,024 rectangles, as `STRIP_ROOM` in src/
+-- the numbers of a strip's sides of one kind, two for each of 1,024 rectangles
+abbrev pub sidesRoom : ℕ
+sidesRoom = 2 * mostRects
+
+-- and of both kinds, as `STRIP_ROOM` in src/
 abbrev pub stripRoom : ℕ
-stripRoom = 2 * mostRects
+stripRoom = 2 * sidesRoom
 
 -- a side, if it has any rows
 abbrev pub sidePart : (column rows : ℕ) → List ℕ
@@ -57,7 +61,7 @@ Rising b (v ∷ h ∷ s) = (b ≤ v) × Rising v s
 
 -- what a sweep asks of a list of sides: at most 1,024, two numbers each, in rising order, and no number past 2^20
 pub record Sides (s : List ℕ) : Type 0 where
-  pub few : length s ≤ stripRoom
+  pub few : length s ≤ sidesRoom
   pub small : (i : ℕ) → getD s i 0 ≤ widest
   pub rising : Rising 0 s
 

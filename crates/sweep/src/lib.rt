@@ -9,9 +9,10 @@ mod cursors;
 mod ordering;
 mod strips;
 
-ghost use Prim.Native.Nat.{_*_, _/_, _≤_};
+ghost use Prim.Native.Nat.{_-_, _*_, _/_, _≤_};
 ghost use mathlib.Core.Path.{_≡_};
-ghost use lib.ListN.{length, take};
+ghost use mathlib.Core.List.{_++_};
+ghost use lib.ListN.{length, take, drop};
 ghost use Rattle.buffers.specs.Written.{Front};
 ghost use Rattle.sweep.specs.declared.Side.the-variants.{Low, High};
 ghost use Rattle.sweep.specs.Order.{sideOrder};
@@ -20,10 +21,10 @@ ghost use Rattle.sweep.specs.Cursors.{startFrame, frameAt, TrueArea, Beh
 use geometry::MOST_RECTS;
 
 // Room for the places of the low sides and those of the high sides, and for the
-// sides of one kind in a strip, two numbers each.
+// sides of a strip, of both kinds, two numbers each.
 pub const ORDER_ROOM: usize = 2 * MOST_RECTS;
 
-pub const STRIP_ROOM: usize = 2 * MOST_RECTS;
+pub const STRIP_ROOM: usize = 4 * MOST_RECTS;
 
 // The upright sides of a rectangle.
 pub enum Side {
@@ -57,10 +58,10 @@ pub struct Frame {
     pub high: Edges,
 }
 
-// How many numbers a strip's two lists have.
+// How many numbers a strip has: those of its low sides, and of both kinds.
 pub struct Lengths {
     pub low: usize,
-    pub high: usize,
+    pub both: usize,
 }
 
 // Writes the places of the rectangles in a table at the front of a buffer, in
@@ -74,26 +75,22 @@ pub fn order_sides(rects: &[u64], out: &mut [usize]) -> usize
     low + high
 }
 
-// Writes the low and the high sides that the rows y1 to y2 hold at the fronts of
-// two buffers: a strip, along which a box's area is the true one.
-pub fn strip(
-    rects: &[u64],
-    order: &[usize],
-    y1: u64,
-    y2: u64,
-    lows: &mut [u64],
-    highs: &mut [u64],
-) -> Lengths
+// Writes the low sides that the rows y1 to y2 hold at the front of a buffer, and
+// the high sides right behind them: a strip, along which a box's area is the true
+// one.
+pub fn strip(rects: &[u64], order: &[usize], y1: u64, y2: u64, out: &mut [u64]) -> Lengths
     requires { ⌜ Swept (now rects) (now order) ⌝ }
-    requires { ⌜ (stripRoom ≤ length (now lows)) × (stripRoom ≤ length (now highs)) ⌝ }
-    ensures { λ r. ⌜ Front (now (lows .entry)) (stripSides (now (rects .entry)) Low y1 y2) (now (lows .exit)) (r .low) ⌝ }
-    ensures { λ r. ⌜ Front (now (highs .entry)) (stripSides (now (rects .entry)) High y1 y2) (now (highs .exit)) (r .high) ⌝ }
-    ensures { λ r. ⌜ StripOf (now (rects .entry)) y1 y2 (take (r .low) (now (lows .exit))) (take (r .high) (now (highs .exit))) ⌝ }
+    requires { ⌜ stripRoom ≤ length (now out) ⌝ }
+    ensures { λ r. ⌜ Front (now (out .entry)) (stripSides (now (rects .entry)) Low y1 y2 ++ stripSides (now (rects .entry)) High y1 y2) (now (out .exit)) (r .both) ⌝ }
+    ensures { λ r. ⌜ (r .low ≤ r .both) × StripOf (now (rects .entry)) y1 y2 (take (r .low) (now (out .exit))) (take (r .both - r .low) (drop (r .low) (now (out .exit)))) ⌝ }
 {
     let half = rects.len() / 4;
-    let low = strips::sides_of(rects, &order[..half], Side::Low, y1, y2, lows);
-    let high = strips::sides_of(rects, &order[half..], Side::High, y1, y2, highs);
-    Lengths { low, high }
+    let low = strips::sides_of(rects, &order[..half], Side::Low, y1, y2, out);
+    let high = strips::sides_of(rects, &order[half..], Side::High, y1, y2, &mut out[low..]);
+    Lengths {
+        low,
+        both: low + high,
+    }
 }
 
 // The empty box at column 0, from which every sweep begins.

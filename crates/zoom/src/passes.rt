@@ -159,27 +159,27 @@ fn row_at(
     g: Grid,
     j: u64,
     before: Level,
-    lows: &mut [u64],
-    highs: &mut [u64],
+    sides: &mut [u64],
 ) -> Level
     requires { ⌜ RowPassable (now rects) (now order) (now flags) g j (before .named .area) ⌝ }
     requires { ⌜ Lookable pass (g .sense) levelRoom before ⌝ }
-    requires { ⌜ (stripRoom ≤ length (now lows)) × (stripRoom ≤ length (now highs)) ⌝ }
+    requires { ⌜ stripRoom ≤ length (now sides) ⌝ }
     ensures { λ r. ⌜ r ≡ passInRow pass (g .sense) (areaOn pass g (now (rects .entry))) (g .t) (j * g .t) (g .starts) before ⌝ }
     ensures { λ r. ⌜ now (new .exit) ≡ flagsPassed pass (g .sense) (before .named .area) (areaOn pass g (now (rects .entry))) (g .t) (j * g .t) (j * g .starts) (g .starts) (now (new .entry)) ⌝ }
 {
     let sense = g.sense;
     let u = step_of(pass, g);
     let y = j * g.t;
-    let low = span_from(sense, u, y);
-    let high = span_to(sense, g.n, g.w, u, y);
-    let lengths = sweep::strip(rects, order, low, high, lows, highs);
-    let count = lengths.low;
-    let more = lengths.high;
+    let y1 = span_from(sense, u, y);
+    let y2 = span_to(sense, g.n, g.w, u, y);
+    let lengths = sweep::strip(rects, order, y1, y2, sides);
+    let low = lengths.low;
+    let both = lengths.both;
+    let strip = &sides[..];
     row(
         pass,
-        &lows[..count],
-        &highs[..more],
+        &strip[..low],
+        &strip[low..both],
         flags,
         new,
         g,
@@ -203,23 +203,11 @@ pub(crate) fn rows(
     ensures { λ r. ⌜ r ≡ passInRows pass (g .sense) (areaOn pass g (now (rects .entry))) (g .t) (g .starts) (g .starts) before ⌝ }
     ensures { λ r. ⌜ now (new .exit) ≡ flagsPassedRows pass (g .sense) (before .named .area) (areaOn pass g (now (rects .entry))) (g .t) (g .starts) (g .starts) (now (new .entry)) ⌝ }
 {
-    let mut lows = [0u64; STRIP_ROOM];
-    let mut highs = [0u64; STRIP_ROOM];
+    let mut sides = [0u64; STRIP_ROOM];
     let mut so_far = before;
     let mut j: u64 = 0;
     while j < g.starts {
-        so_far = row_at(
-            pass,
-            rects,
-            order,
-            flags,
-            new,
-            g,
-            j,
-            so_far,
-            &mut lows,
-            &mut highs,
-        );
+        so_far = row_at(pass, rects, order, flags, new, g, j, so_far, &mut sides);
         j += 1;
     }
     so_far

@@ -15,36 +15,36 @@ use Rattle.extremes.proofs.search.Statement.{statement}
 use Rattle.extremes.proofs.search.Tie as tie
 
 abbrev Inv-loop : tie.InvT-loop
-Inv-loop rects order n w sense ys last lows₀ highs₀ best₀ i₀ lows highs best i =
-    (i ≤ length ys) × (length lows ≡ stripRoom) × (length highs ≡ stripRoom)
+Inv-loop rects order n w sense ys last sides₀ best₀ i₀ sides best i =
+    (i ≤ length ys) × (length sides ≡ stripRoom)
     × (leadingInRows sense (windowArea (rectsOf rects) w) (triedRow sense w (n - w) rects) (drop i ys) best
     ≡ leadingInRows sense (windowArea (rectsOf rects) w) (triedRow sense w (n - w) rects) ys (spotAt (windowArea (rectsOf rects) w) 0 0))
 
 abbrev μ-loop : tie.MeasureT-loop
-μ-loop rects order n w sense ys last lows₀ highs₀ best₀ i₀ lows highs best i = length ys - i
+μ-loop rects order n w sense ys last sides₀ best₀ i₀ sides best i = length ys - i
 
 loop-holds : tie.Need-loop-holds Inv-loop μ-loop
 loop-holds c =
     let a = c .before .before .before .before .args in
-    (omega arith, refl, refl, rows-start (windowArea (rectsOf (a .rects .now)) (a .w)) (a .sense) _ (a .ys .now) _ (c .first-window .ensures))
+    (omega arith, refl, rows-start (windowArea (rectsOf (a .rects .now)) (a .w)) (a .sense) _ (a .ys .now) _ (c .first-window .ensures))
 
 search-row-requires : tie.Need-search-row-requires Inv-loop μ-loop
 search-row-requires c κs =
-    let s = c .before .before .before .before .before .before .before .before .before in
-    let at = c .before .before .before .before .loop in (
+    let s = c .before .before .before .before .before .before .before .before in
+    let at = c .before .before .before .loop in (
       s .pre .0 .swept,
       (
         record { right = omega (arith, s .pre .0 .fits, s .pre .0 .small); low = small-at (s .args .ys .now) (at .i) (s .pre .1) },
-        (omega (arith, at .inv .1), omega (arith, at .inv .2)),
+        omega (arith, at .inv .1),
       ),
     )
 
 loop-again : tie.Need-loop-again Inv-loop μ-loop
 loop-again c =
-    let at = c .before .before .before .before .before .before .before .loop in
-    let more = c .before .before .before .before .before .before .loop-test .taken in
-    let row = c .before .before .search-row in
-    (omega arith, row .kept .1 .1 .1 .1 .0 ∙ at .inv .1, row .kept .1 .1 .1 .1 .1 .0 ∙ at .inv .2, folded-next _ _ _ _ _ (at .inv .3) _ more (row .ensures))
+    let at = c .before .before .before .before .before .loop in
+    let more = c .before .before .before .before .loop-test .taken in
+    let row = c .before .search-row in
+    (omega arith, row .kept .1 .1 .1 .1 .0 ∙ at .inv .1, folded-next _ _ _ _ _ (at .inv .2) _ more (row .ensures))
 
 pub search-spec : {M : Type 1} → statement M
 search-spec =
@@ -58,7 +58,6 @@ search-spec =
     (λ c. search needs)
     (λ c. search needs)
     (λ c. sym (c .before .before .before .loop .inv .1))
-    (λ c. sym (c .before .before .before .before .loop .inv .2))
     search-row-requires
     (λ c. search needs)
     (λ c. search needs)

@@ -1,22 +1,18 @@
 -- `extremes::searching::search_row` meets its contract: the strip's sums are the areas of the row's windows. Assumes nothing.
+use native.Mathlib.Omega.{arith}
 use borrow.Author.Needs.{needs}
-use Rattle.buffers.proofs.Fronts.{front-fits, front-count}
+use Rattle.buffers.proofs.Fronts.{front-fits, front-part}
 use Rattle.extremes.proofs.Sweeping.{row-by-strip}
 use Rattle.extremes.proofs.searching.search_row.Statement.{statement}
 use Rattle.extremes.proofs.searching.search_row.Tie as tie
 
-search-strip-requires : tie.Need-search-strip-requires
-search-strip-requires c κs =
-    let s = c .before .before .before .before .before .before .before .before .before .before .before .before .before .before in
-    (c .before .before .before .before .before .before .strip .ensures .1 .1 .strip, s .pre .1 .0)
-
 returns : tie.Need-returns
 returns c =
-    let a = c .before .before .before .before .before .before .before .before .before .before .before .before .before .before .before .args in
-    row-by-strip (a .rects .now) _ _ (a .row) (a .best) _ (c .before .before .before .before .before .before .before .strip .ensures .1 .1) (c .search-strip .ensures)
+    let a = c .before .before .before .before .before .before .before .before .before .before .before .before .args in
+    row-by-strip (a .rects .now) _ _ (a .row) (a .best) _ (c .before .before .before .before .before .before .strip .ensures .1 .1) (c .search-strip .ensures)
 
 pub search-row-spec : {M : Type 1} → statement M
 search-row-spec =
     tie.close
-    (tie.spec (λ c. search needs) (λ c κs. search needs) (λ c. search front-fits) (λ c. search front-count) (λ c. search front-fits) (λ c. search front-count)
-    search-strip-requires (λ c. search needs) (λ c. search needs) returns)
+    (tie.spec (λ c. search needs) (λ c κs. search needs) (λ c. search front-part) (λ c. omega (arith, front-fits _ _ _ _ (c .before .before .before .before .strip .ensures .0))) (λ c. search needs) (λ c. search needs) (λ c. search front-fits)
+    (λ c κs. search needs) (λ c. search needs) returns)

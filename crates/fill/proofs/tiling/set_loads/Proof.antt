@@ -15,39 +15,38 @@ use Rattle.fill.proofs.tiling.set_loads.Statement.{statement}
 use Rattle.fill.proofs.tiling.set_loads.Tie as tie
 
 abbrev Inv-loop : tie.InvT-loop
-Inv-loop rects order amounts plan out₀ lows₀ highs₀ j₀ out lows highs j =
-    (j ≤ plan .across) × (length lows ≡ stripRoom) × (length highs ≡ stripRoom) × Filled (loadOf (rectsOf rects) amounts plan) out₀ out 0 (j * plan .across)
+Inv-loop rects order amounts plan out₀ sides₀ j₀ out sides j =
+    (j ≤ plan .across) × (length sides ≡ stripRoom) × Filled (loadOf (rectsOf rects) amounts plan) out₀ out 0 (j * plan .across)
 
 abbrev μ-loop : tie.MeasureT-loop
-μ-loop rects order amounts plan out₀ lows₀ highs₀ j₀ out lows highs j = plan .across - j
+μ-loop rects order amounts plan out₀ sides₀ j₀ out sides j = plan .across - j
 
 loop-holds : tie.Need-loop-holds Inv-loop μ-loop
-loop-holds c = (omega arith, refl, refl, filled-to _ _ _ _ _ _ (filled-start _ _ _) (sym (zero-mul (c .before .before .before .before .args .plan .across))))
+loop-holds c = (omega arith, refl, filled-to _ _ _ _ _ _ (filled-start _ _ _) (sym (zero-mul (c .before .before .before .before .args .plan .across))))
 
 set-row-at-requires : tie.Need-set-row-at-requires Inv-loop μ-loop
 set-row-at-requires c κs =
-    let s = c .before .before .before .before .before .before .before .before .before .before in
-    let at = c .before .before .before .before .before .loop in (
+    let s = c .before .before .before .before .before .before .before .before .before in
+    let at = c .before .before .before .before .loop in (
       s .pre .0,
-      ((s .pre .1 .0, c .before .before .before .if1 .taken), (omega (arith, s .pre .1 .1, at .inv .3 .size), (omega (arith, at .inv .1), omega (arith, at .inv .2)))),
+      ((s .pre .1 .0, c .before .before .if1 .taken), (omega (arith, s .pre .1 .1, at .inv .2 .size), omega (arith, at .inv .1))),
     )
 
 loop-again : tie.Need-loop-again Inv-loop μ-loop
 loop-again c =
-    let a = c .before .before .before .before .before .before .before .before .before .before .before .before .before .before .before .args in
-    let at = c .before .before .before .before .before .before .before .before .before .before .loop in
-    let row = c .before .before .before .before .set-row-at in (
-      omega (arith, c .before .before .before .before .before .before .before .before .if1 .taken),
+    let a = c .before .before .before .before .before .before .before .before .before .before .before .before .before .args in
+    let at = c .before .before .before .before .before .before .before .before .loop in
+    let row = c .before .before .before .set-row-at in (
+      omega (arith, c .before .before .before .before .before .before .if1 .taken),
       row .kept .1 .1 .1 .1 .1 .1 .0 ∙ at .inv .1,
-      row .kept .1 .1 .1 .1 .1 .1 .1 .0 ∙ at .inv .2,
       rw (add-one)
-          (filled-then _ _ _ _ _ _ _ (at .inv .3) (row .ensures) (omega arith) (mul-le-mul-right (a .plan .across) (omega arith))),
+          (filled-then _ _ _ _ _ _ _ (at .inv .2) (row .ensures) (omega arith) (mul-le-mul-right (a .plan .across) (omega arith))),
     )
 
 returns : tie.Need-returns Inv-loop μ-loop
 returns c =
     let at = c .before .before .loop in
-    rows-done _ _ _ (c .before .before .before .before .before .before .before .args .plan .across) (at .j) (at .inv .3) (at .inv .0) (c .if1 .left)
+    rows-done _ _ _ (c .before .before .before .before .before .before .before .args .plan .across) (at .j) (at .inv .2) (at .inv .0) (c .if1 .left)
 
 pub set-loads-spec : {M : Type 1} → statement M
 set-loads-spec =
@@ -57,10 +56,9 @@ set-loads-spec =
     μ-loop
     loop-holds
     (λ c. sym (c .before .before .before .before .loop .inv .1))
-    (λ c. sym (c .before .before .before .before .before .loop .inv .2))
     set-row-at-requires
     (λ c. search needs)
-    (λ c. omega (arith, c .before .before .before .before .before .before .before .before .if1 .taken))
+    (λ c. omega (arith, c .before .before .before .before .before .before .if1 .taken))
     loop-again
-    (λ c. c .before .before .loop .inv .3 .size)
+    (λ c. c .before .before .loop .inv .2 .size)
     returns)

@@ -13,52 +13,51 @@ use Rattle.zoom.proofs.passes.rows.Statement.{statement}
 use Rattle.zoom.proofs.passes.rows.Tie as tie
 
 abbrev Inv-loop : tie.InvT-loop
-Inv-loop pass rects order flags new₀ g lows₀ highs₀ so-far₀ j₀ new lows highs so-far j =
-    (j ≤ g .starts) × (length lows ≡ stripRoom) × (length highs ≡ stripRoom)
+Inv-loop pass rects order flags new₀ g sides₀ so-far₀ j₀ new sides so-far j =
+    (j ≤ g .starts) × (length sides ≡ stripRoom)
     × PassesSoFar pass (g .sense) (areaOn pass g rects) (g .t) (g .starts) j so-far₀ so-far new₀ new
 
 abbrev μ-loop : tie.MeasureT-loop
-μ-loop pass rects order flags new₀ g lows₀ highs₀ so-far₀ j₀ new lows highs so-far j = g .starts - j
+μ-loop pass rects order flags new₀ g sides₀ so-far₀ j₀ new sides so-far j = g .starts - j
 
 loop-holds : tie.Need-loop-holds Inv-loop μ-loop
-loop-holds c = (omega arith, refl, refl, passes-begin (c .before .before .before .before .args .pass) _ _ _ _ _ _)
+loop-holds c = (omega arith, refl, passes-begin (c .before .before .before .before .args .pass) _ _ _ _ _ _)
 
 row-at-requires : tie.Need-row-at-requires Inv-loop μ-loop
 row-at-requires c κs =
-    let s = c .before .before .before .before .before .before .before .before .before .before in
+    let s = c .before .before .before .before .before .before .before .before .before in
     let a = s .args in
     let p = s .pre .0 in
-    let at = c .before .before .before .before .before .loop in
-    let within = c .before .before .before .if1 .taken in (
+    let at = c .before .before .before .before .loop in
+    let within = c .before .before .if1 .taken in (
       record {
         swept = p .swept;
         sized = p .sized;
         within = within;
         spare =
-            passes-spare (a .pass) _ _ _ _ _ _ _ _ _ (at .inv .3) (rectsOf (a .rects .now)) (a .g .n) (a .g .w) (a .flags .now) (a .g .stride)
+            passes-spare (a .pass) _ _ _ _ _ _ _ _ _ (at .inv .2) (rectsOf (a .rects .now)) (a .g .n) (a .g .w) (a .flags .now) (a .g .stride)
             (p .spare (at .j) (rw (p .sized .count) at within));
       },
       (
-        passes-lookable (a .pass) _ _ _ _ _ _ _ _ _ (at .inv .3) (row-place (a .g) (at .j) (p .sized) (at .inv .0)) (s .pre .1),
-        (omega (arith, at .inv .1), omega (arith, at .inv .2)),
+        passes-lookable (a .pass) _ _ _ _ _ _ _ _ _ (at .inv .2) (row-place (a .g) (at .j) (p .sized) (at .inv .0)) (s .pre .1),
+        omega (arith, at .inv .1),
       ),
     )
 
 loop-again : tie.Need-loop-again Inv-loop μ-loop
 loop-again c =
-    let at = c .before .before .before .before .before .before .before .before .before .before .loop in
-    let row = c .before .before .before .before .row-at in (
-      omega (arith, c .before .before .before .before .before .before .before .before .if1 .taken),
+    let at = c .before .before .before .before .before .before .before .before .loop in
+    let row = c .before .before .before .row-at in (
+      omega (arith, c .before .before .before .before .before .before .if1 .taken),
       row .kept .1 .1 .1 .1 .1 .1 .1 .1 .0 ∙ at .inv .1,
-      row .kept .1 .1 .1 .1 .1 .1 .1 .1 .1 .0 ∙ at .inv .2,
-      passes-advance (c .before .before .before .before .before .before .before .before .before .before .before .before .before .before .before .args .pass) _ _ _ _ _ _ _ _ _ (at .inv .3) _ _ (row .ensures .0) (row .ensures .1),
+      passes-advance (c .before .before .before .before .before .before .before .before .before .before .before .before .before .args .pass) _ _ _ _ _ _ _ _ _ (at .inv .2) _ _ (row .ensures .0) (row .ensures .1),
     )
 
 returns : tie.Need-returns Inv-loop μ-loop
 returns c =
     let at = c .before .before .loop in
     let a = c .before .before .before .before .before .before .before .args in
-    let done = passes-done (a .pass) _ _ _ _ _ _ _ _ _ (at .inv .3) (a .g .starts) (at .inv .0) (c .if1 .left) in
+    let done = passes-done (a .pass) _ _ _ _ _ _ _ _ _ (at .inv .2) (a .g .starts) (at .inv .0) (c .if1 .left) in
     (done .search, done .flags)
 
 pub rows-spec : {M : Type 1} → statement M
@@ -69,10 +68,9 @@ rows-spec =
     μ-loop
     loop-holds
     (λ c. sym (c .before .before .before .before .loop .inv .1))
-    (λ c. sym (c .before .before .before .before .before .loop .inv .2))
     row-at-requires
     (λ c. search needs)
-    (λ c. omega (arith, c .before .before .before .before .before .before .before .before .if1 .taken))
+    (λ c. omega (arith, c .before .before .before .before .before .before .if1 .taken))
     loop-again
-    (λ c. passes-length (c .before .before .before .before .before .before .before .args .pass) _ _ _ _ _ _ _ _ _ (c .before .before .loop .inv .3))
+    (λ c. passes-length (c .before .before .before .before .before .before .before .args .pass) _ _ _ _ _ _ _ _ _ (c .before .before .loop .inv .2))
     returns)
