@@ -9,7 +9,8 @@ use Rattle.geometry.specs.declared.Rect.{Rect}
 use Rattle.geometry.specs.declared.Sense.{Sense}
 use Rattle.geometry.specs.declared.Sense.the-variants.{Greatest, Least}
 use Rattle.geometry.specs.Layout.{coveredArea, rectsOf}
-use Rattle.sweep.specs.Strips.{StripOf}
+use Rattle.sweep.specs.declared.Lengths.{Lengths}
+use Rattle.sweep.specs.Strips.{StripOf, StripIn}
 use Rattle.zoom.specs.declared.Grid.{Grid}
 use Rattle.zoom.specs.declared.Level.{Level}
 use Rattle.zoom.specs.declared.Pass.{Pass}
@@ -64,12 +65,12 @@ flags-cong Far s best f g t y at k l h = flags-row-cong s best (λ x. f x y) (λ
 
 -- ---- a row and its strip
 
-pub strip-of-pass : (p : Pass) (t : List ℕ) (g : Grid) (j u y1 y2 : ℕ) (lows highs : List ℕ) → u ≡ stepOf p g → y1 ≡ spanFrom (g .sense) u (j * g .t) →
-    y2 ≡ spanTo (g .sense) (g .n) (g .w) u (j * g .t) → StripOf t y1 y2 lows highs →
-    StripOf t (spanFrom (g .sense) (stepOf p g) (j * g .t)) (spanTo (g .sense) (g .n) (g .w) (stepOf p g) (j * g .t)) lows highs
-strip-of-pass p t g j u y1 y2 lows highs e f h s =
-    subst (λ (u : ℕ). StripOf t (spanFrom (g .sense) u (j * g .t)) (spanTo (g .sense) (g .n) (g .w) u (j * g .t)) lows highs) e
-    (subst₂ (λ (a b : ℕ). StripOf t a b lows highs) f h s)
+pub strip-of-pass : (p : Pass) (t : List ℕ) (g : Grid) (j u y1 y2 : ℕ) (out : List ℕ) (r : Lengths) → u ≡ stepOf p g → y1 ≡ spanFrom (g .sense) u (j * g .t) →
+    y2 ≡ spanTo (g .sense) (g .n) (g .w) u (j * g .t) → StripIn t y1 y2 out r →
+    StripIn t (spanFrom (g .sense) (stepOf p g) (j * g .t)) (spanTo (g .sense) (g .n) (g .w) (stepOf p g) (j * g .t)) out r
+strip-of-pass p t g j u y1 y2 out r e f h s =
+    subst (λ (u : ℕ). StripIn t (spanFrom (g .sense) u (j * g .t)) (spanTo (g .sense) (g .n) (g .w) u (j * g .t)) out r) e
+    (subst₂ (λ (a b : ℕ). StripIn t a b out r) f h s)
 
 module _ (p : Pass) (t : List ℕ) (g : Grid) (j : ℕ) (z : Sized g) (k : j < g .starts) (lows highs : List ℕ)
     (lent : StripOf t (spanFrom (g .sense) (stepOf p g) (j * g .t)) (spanTo (g .sense) (g .n) (g .w) (stepOf p g) (j * g .t)) lows highs) where
