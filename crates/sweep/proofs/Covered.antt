@@ -54,7 +54,7 @@ module _ (v h : ℕ) where
     pub no-side-written : h ≤ 0 → Written l at (sidePart v h) l at
     no-side-written p = rw (part-none p) (none-stored l at)
 
-pub side-known : (l : List ℕ) (at v h a b : ℕ) (m : List ℕ) (r : ℕ) → a ≡ v → b ≡ h → Written l at (sidePart a b) m r → Written l at (sidePart v h) m r
+side-known : (l : List ℕ) (at v h a b : ℕ) (m : List ℕ) (r : ℕ) → a ≡ v → b ≡ h → Written l at (sidePart a b) m r → Written l at (sidePart v h) m r
 side-known l at v h a b m r e f w = subst₂ (λ (a b : ℕ). Written l at (sidePart a b) m r) e f w
 
 -- ---- the loop over the places
@@ -64,14 +64,14 @@ module _ (table : List ℕ) (side : Side) (y1 y2 : ℕ) (places before out : Lis
   pub sides-room : i < length places → at + 2 ≤ length out
   sides-room h = omega (arith, s .behind, s .same)
 
-  pub sides-next : (m : List ℕ) (r : ℕ) → i < length places →
-      Written out at (sidePart (columnOn table side (getD places i 0)) (rowsOn table y1 y2 (getD places i 0))) m r →
-      FrontSoFar (sidesAt table side y1 y2) 2 places before m r (i + 1)
+  pub sides-next : (m : List ℕ) (v h r : ℕ) → i < length places → v ≡ columnOn table side (getD places i 0) → h ≡ rowsOn table y1 y2 (getD places i 0) →
+      Written out at (sidePart v h) m r → FrontSoFar (sidesAt table side y1 y2) 2 places before m r (i + 1)
   unfolding sidesAt
-  sides-next m r h p =
+  sides-next m v h r more column rows p =
       front-moves (sidesAt table side y1 y2) 2 places before out at i s room 1 _ m r (omega arith)
       (part-short (columnOn table side (getD places i 0)) (rowsOn table y1 y2 (getD places i 0)))
-      (ap (sidesAt table side y1 y2) (drop-cons places i 0 h ∙ ap (λ (k : ℕ). getD places i 0 ∷ drop k places) (sym (add-one i)))) p
+      (ap (sidesAt table side y1 y2) (drop-cons places i 0 more ∙ ap (λ (k : ℕ). getD places i 0 ∷ drop k places) (sym (add-one i))))
+      (side-known out at _ _ v h m r column rows p)
 
   pub sides-end : length places ≤ i → Front before (sidesAt table side y1 y2 places) out at
   unfolding sidesAt
