@@ -78,7 +78,8 @@ strip-of-pass t g j u y1 y2 out r e f h s =
 module _ (t : List ℕ) (g : Grid) (j : ℕ) (z : Sized g) (k : j < g .starts) (lows highs : List ℕ)
     (lent : StripOf t (spanFrom (g .sense) (stepOf g) (j * g .t)) (spanTo (g .sense) (g .n) (g .w) (stepOf g) (j * g .t)) lows highs) where
   -- the areas along the strip are those of the pass's windows
-  pass-areas : (q : Pass) → (i : ℕ) → i < g .starts → farArea (g .sense) (rectsOf t) (g .n) (g .w) (stepIn q (g .t)) (i * g .t) (j * g .t) ≡ areaIn q g t (i * g .t) (j * g .t)
+  pass-areas : (q : Pass) → (i : ℕ) → i < g .starts →
+      farArea (g .sense) (rectsOf t) (g .n) (g .w) (stepIn q (g .t)) (i * g .t) (j * g .t) ≡ areaIn q g t (i * g .t) (j * g .t)
   pass-areas Standard i h =
       sym (standard-is-far (g .sense) (rectsOf t) (g .n) (g .w) (i * g .t) (j * g .t) (start-inside g i z h) (start-inside g j z k))
   pass-areas Far i h = refl

@@ -23,14 +23,16 @@ abbrev pub stepIn : Pass → (t : ℕ) → ℕ
 stepIn Standard t = 0
 stepIn Far t = t
 
+-- that of a grid's own pass
 abbrev pub stepOf : Grid → ℕ
 stepOf g = stepIn (g .pass) (g .t)
 
--- the areas of its windows
+-- the areas of a pass's windows
 abbrev pub areaIn : Pass → Grid → (rects : List ℕ) → (x y : ℕ) → ℕ
 areaIn Standard g rects = windowArea (rectsOf rects) (g .w)
 areaIn Far g rects = farOn g rects
 
+-- those of a grid's own pass
 abbrev pub areaOn : Grid → (rects : List ℕ) → (x y : ℕ) → ℕ
 areaOn g rects = areaIn (g .pass) g rects
 

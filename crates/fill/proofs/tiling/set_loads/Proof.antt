@@ -36,17 +36,20 @@ end c =
     omega (arith, row-fits (s .args .plan .across) (s .args .plan .side) _ (c .before .before .if1 .taken) (s .pre .0 .layout))
 
 strip-requires : tie.Need-strip-requires Inv-loop μ-loop
-strip-requires c κs = (c .before .before .before .before .before .before .before .before .before .before .pre .1 .0, omega (arith, c .before .before .before .before .before .loop .inv .1))
+strip-requires c κs =
+    let s = c .before .before .before .before .before .before .before .before .before .before in
+    (s .pre .1 .0, omega (arith, c .before .before .before .before .before .loop .inv .1))
 
 set-row-requires : tie.Need-set-row-requires Inv-loop μ-loop
 set-row-requires c κs =
     let s = c .before .before .before .before .before .before .before .before .before .before .before .before .before .before .before .before in
     let a = s .args in
     let at = c .before .before .before .before .before .before .before .before .before .before .before .loop in
+    let more = c .before .before .before .before .before .before .before .before .before .if1 .taken in
     let strip = c .before .before .before .before .before .strip .ensures .1 .lent in (
       strip .strip,
       (
-        row-tiled (a .rects .now) (a .amounts .now) (a .plan) (at .j) (s .pre .0) (c .before .before .before .before .before .before .before .before .before .if1 .taken) _ _ strip,
+        row-tiled (a .rects .now) (a .amounts .now) (a .plan) (at .j) (s .pre .0) more _ _ strip,
         omega (arith, s .pre .1 .1, at .inv .2 .size),
       ),
     )

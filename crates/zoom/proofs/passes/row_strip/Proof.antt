@@ -22,8 +22,8 @@ span-to-requires c κs =
 returns : tie.Need-returns
 returns c =
     let a = c .before .before .before .before .before .before .before .before .before .before .before .args in
-    strip-of-pass (a .rects .now) (a .g) (a .j) _ _ _ _ _ (c .before .before .before .before .before .before .before .step-of .ensures) (c .before .before .before .before .before .span-from .ensures)
-    (c .before .before .before .before .span-to .ensures) (c .before .before .strip .ensures .1)
+    strip-of-pass (a .rects .now) (a .g) (a .j) _ _ _ _ _ (c .before .before .before .before .before .before .before .step-of .ensures)
+    (c .before .before .before .before .before .span-from .ensures) (c .before .before .before .before .span-to .ensures) (c .before .before .strip .ensures .1)
 
 pub row-strip-spec : {M : Type 1} → statement M
 row-strip-spec =

@@ -57,7 +57,9 @@ row-requires c κs =
     )
 
 add-j : tie.Need-add-j Inv-loop μ-loop
-add-j c = let s = c .before .before .before .before .before .before .before .before .before .before .before .before .before .before .before .before .before in omega (arith, starts-small (s .args .g) (s .pre .0 .sized), c .before .before .before .before .before .before .before .before .before .before .if1 .taken)
+add-j c =
+    let s = c .before .before .before .before .before .before .before .before .before .before .before .before .before .before .before .before .before in
+    omega (arith, starts-small (s .args .g) (s .pre .0 .sized), c .before .before .before .before .before .before .before .before .before .before .if1 .taken)
 
 loop-again : tie.Need-loop-again Inv-loop μ-loop
 loop-again c =
