@@ -26,9 +26,6 @@ front-fits before w after r p = omega (arith, p .count, ap length (p .buffer), l
 pub front-count : (before w after : List ℕ) (r : ℕ) → Front before w after r → r ≡ length (take r after)
 front-count before w after r p = p .count ∙ ap length (sym (front-take before w after r p))
 
-pub front-part : (before w after : List ℕ) (a r : ℕ) → Front before w after r → a ≤ r → a ≡ length (take a after)
-front-part before w after a r p h = sym (length-take-le a after (omega (arith, front-fits before w after r p)))
-
 pub front-chain : (before l mid m after : List ℕ) (k r : ℕ) → Front before l mid k → Front mid m after r → length l ≤ length m → Front before m after r
 front-chain before l mid m after k r f g h = record { count = g .count; buffer = g .buffer ∙ ap (λ (t : List ℕ). m ++ t) rest }
   where

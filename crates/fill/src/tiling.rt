@@ -1,10 +1,10 @@
 // The loads of all tiles, one row of tiles at a time.
 use crate::Plan;
 use sweep::STRIP_ROOM;
-ghost use Prim.Native.Nat.{suc, _*_, _≤_, _<_};
+ghost use Prim.Native.Nat.{suc, _*_, _≤_};
 ghost use lib.ListN.{length};
 ghost use Rattle.geometry.specs.Layout.{rectsOf};
-ghost use Rattle.sweep.specs.Strips.{stripRoom, Strip, Swept};
+ghost use Rattle.sweep.specs.Strips.{Strip, Swept};
 ghost use Rattle.fill.specs.Sizes.{Tiled, RowTiled};
 ghost use Rattle.fill.specs.Windows.{loadOf, loadAlong, Filled};
 
@@ -27,31 +27,6 @@ fn set_row(lows: &[u64], highs: &[u64], amounts: &[u64], plan: Plan, j: u64, out
     }
 }
 
-// The same by the rectangles.
-fn set_row_at(
-    rects: &[u64],
-    order: &[usize],
-    amounts: &[u64],
-    plan: Plan,
-    j: u64,
-    out: &mut [u64],
-    sides: &mut [u64],
-)
-    requires { ⌜ Tiled (now rects) (now amounts) plan ⌝ }
-    requires { ⌜ Swept (now rects) (now order) × (j < plan .across) ⌝ }
-    requires { ⌜ plan .across * plan .across ≤ length (now out) ⌝ }
-    requires { ⌜ stripRoom ≤ length (now sides) ⌝ }
-    ensures { λ _. ⌜ Filled (loadOf (rectsOf (now (rects .entry))) (now (amounts .entry)) plan) (now (out .entry)) (now (out .exit)) (j * plan .across) (suc j * plan .across) ⌝ }
-{
-    let y1 = j * plan.side;
-    let y2 = y1 + plan.side;
-    let lengths = sweep::strip(rects, order, y1, y2, sides);
-    let low = lengths.low;
-    let both = lengths.both;
-    let strip = &sides[..];
-    set_row(&strip[..low], &strip[low..both], amounts, plan, j, out);
-}
-
 // Writes the load of each tile at the front of a table, row by row.
 pub(crate) fn set_loads(
     rects: &[u64],
@@ -68,7 +43,13 @@ pub(crate) fn set_loads(
     let mut sides = [0u64; STRIP_ROOM];
     let mut j: u64 = 0;
     while j < plan.across {
-        set_row_at(rects, order, amounts, plan, j, out, &mut sides);
+        let y1 = j * plan.side;
+        let y2 = y1 + plan.side;
+        let lengths = sweep::strip(rects, order, y1, y2, &mut sides);
+        let low = lengths.low;
+        let both = lengths.both;
+        let strip = &sides[..];
+        set_row(&strip[..low], &strip[low..both], amounts, plan, j, out);
         j += 1;
     }
 }

@@ -6,12 +6,12 @@ use mathlib.Core.List.{List, [], _∷_, _++_}
 use native.Mathlib.Numerals.{add-one}
 use native.Mathlib.Omega.{arith}
 use lib.ListN.{length, getD, set, take, drop, length-append, drop-of-length-le}
-use lib.Seq.{drop-cons}
+use lib.Seq.{drop-cons, length-take-le}
 use borrow.Author.Tests.{lt-ltb, le-ltb}
 use Rattle.laws.proofs.Tests.{le-or-lt}
 use Rattle.buffers.specs.Written.{Written, Front}
 use Rattle.buffers.proofs.Writing.{two-stored, none-stored}
-use Rattle.buffers.proofs.Fronts.{FrontSoFar, front-moves, front-ends, front-behind, front-first, front-second}
+use Rattle.buffers.proofs.Fronts.{FrontSoFar, front-moves, front-ends, front-fits, front-behind, front-first, front-second}
 use Rattle.geometry.specs.declared.Rect.{Rect}
 use Rattle.geometry.specs.Sizes.{widest}
 use Rattle.geometry.specs.Count.{one-if, rectSum}
@@ -19,10 +19,11 @@ use Rattle.geometry.specs.Layout.{covered, coveredArea, rectsOf, Drawn}
 use Rattle.geometry.specs.Overlaps.{common}
 use Rattle.geometry.proofs.Counting.{rect-cong, rect-plus, box-cut-columns}
 use Rattle.geometry.proofs.Overlaps.{overlap-is-area}
+use Rattle.sweep.specs.declared.Lengths.{Lengths}
 use Rattle.sweep.specs.declared.Side.{Side}
 use Rattle.sweep.specs.declared.Side.the-variants.{Low, High}
 use Rattle.sweep.specs.Order.{column, columnOn, placesBy}
-use Rattle.sweep.specs.Strips.{sidesRoom, stripRoom, sidePart, rowsOn, sidesAt, stripSides, sideSum, ramps, Rising, Sides, StripOf}
+use Rattle.sweep.specs.Strips.{sidesRoom, stripRoom, sidePart, rowsOn, sidesAt, stripSides, sideSum, ramps, Rising, Sides, StripOf, StripIn}
 use Rattle.sweep.proofs.Sums.{rising-weaken}
 use Rattle.sweep.proofs.Sorted.{Ascending, placeSum, places-sum, ordered-ascends, ordered-length}
 
@@ -53,7 +54,7 @@ module _ (v h : ℕ) where
     pub no-side-written : h ≤ 0 → Written l at (sidePart v h) l at
     no-side-written p = rw (part-none p) (none-stored l at)
 
-pub side-known : (l : List ℕ) (at v h a b : ℕ) (m : List ℕ) (r : ℕ) → a ≡ v → b ≡ h → Written l at (sidePart a b) m r → Written l at (sidePart v h) m r
+side-known : (l : List ℕ) (at v h a b : ℕ) (m : List ℕ) (r : ℕ) → a ≡ v → b ≡ h → Written l at (sidePart a b) m r → Written l at (sidePart v h) m r
 side-known l at v h a b m r e f w = subst₂ (λ (a b : ℕ). Written l at (sidePart a b) m r) e f w
 
 -- ---- the loop over the places
@@ -63,14 +64,14 @@ module _ (table : List ℕ) (side : Side) (y1 y2 : ℕ) (places before out : Lis
   pub sides-room : i < length places → at + 2 ≤ length out
   sides-room h = omega (arith, s .behind, s .same)
 
-  pub sides-next : (m : List ℕ) (r : ℕ) → i < length places →
-      Written out at (sidePart (columnOn table side (getD places i 0)) (rowsOn table y1 y2 (getD places i 0))) m r →
-      FrontSoFar (sidesAt table side y1 y2) 2 places before m r (i + 1)
+  pub sides-next : (m : List ℕ) (v h r : ℕ) → i < length places → v ≡ columnOn table side (getD places i 0) → h ≡ rowsOn table y1 y2 (getD places i 0) →
+      Written out at (sidePart v h) m r → FrontSoFar (sidesAt table side y1 y2) 2 places before m r (i + 1)
   unfolding sidesAt
-  sides-next m r h p =
+  sides-next m v h r more column rows p =
       front-moves (sidesAt table side y1 y2) 2 places before out at i s room 1 _ m r (omega arith)
       (part-short (columnOn table side (getD places i 0)) (rowsOn table y1 y2 (getD places i 0)))
-      (ap (sidesAt table side y1 y2) (drop-cons places i 0 h ∙ ap (λ (k : ℕ). getD places i 0 ∷ drop k places) (sym (add-one i)))) p
+      (ap (sidesAt table side y1 y2) (drop-cons places i 0 more ∙ ap (λ (k : ℕ). getD places i 0 ∷ drop k places) (sym (add-one i))))
+      (side-known out at _ _ v h m r column rows p)
 
   pub sides-end : length places ≤ i → Front before (sidesAt table side y1 y2 places) out at
   unfolding sidesAt
@@ -211,9 +212,22 @@ module _ (t : List ℕ) (side : Side) (y1 y2 : ℕ) (places before after : List 
   pub room-behind : (n : ℕ) → n ≤ sidesRoom → stripRoom ≤ length before → n ≤ length (take (length after - r) (drop r after))
   room-behind n h room = omega (arith, sides-count, front-behind before (sidesAt t side y1 y2 places) after r p)
 
-pub strip-lent : (t : List ℕ) (y1 y2 : ℕ) (before after : List ℕ) (low both : ℕ) → Drawn t → low ≡ length (stripSides t Low y1 y2) →
-    Front before (stripSides t Low y1 y2 ++ stripSides t High y1 y2) after both →
-    StripOf t y1 y2 (take low after) (take (both - low) (drop low after))
-strip-lent t y1 y2 before after low both d e p =
-    rw (front-first before (stripSides t Low y1 y2) (stripSides t High y1 y2) after low both p e, front-second before (stripSides t Low y1 y2) (stripSides t High y1 y2) after low both p e)
-    (strip-of t y1 y2 d)
+module _ (t : List ℕ) (y1 y2 : ℕ) (before after : List ℕ) (r : Lengths) (d : Drawn t) (e : r .low ≡ length (lows t y1 y2))
+    (p : Front before (lows t y1 y2 ++ highs t y1 y2) after (r .both)) where
+  pub strip-lent : StripIn t y1 y2 after r
+  strip-lent =
+      record {
+        order = omega (arith, e, p .count, length-append (lows t y1 y2) (highs t y1 y2));
+        within = front-fits before (lows t y1 y2 ++ highs t y1 y2) after (r .both) p;
+        lent =
+            subst₂ (StripOf t y1 y2) (sym (front-first before (lows t y1 y2) (highs t y1 y2) after (r .low) (r .both) p e))
+            (sym (front-second before (lows t y1 y2) (highs t y1 y2) after (r .low) (r .both) p e)) (strip-of t y1 y2 d);
+      }
+
+-- what slicing it asks
+module _ (t : List ℕ) (y1 y2 : ℕ) (buffer : List ℕ) (r : Lengths) (s : StripIn t y1 y2 buffer r) where
+  pub low-count : r .low ≡ length (take (r .low) buffer)
+  low-count = sym (length-take-le (r .low) buffer (omega (arith, s .order, s .within)))
+
+  pub low-small : r .low ≤ sidesRoom
+  low-small = omega (arith, low-count, s .lent .strip .low .few)

@@ -6,10 +6,11 @@ use mathlib.Core.Path.{_≡_}
 use mathlib.Core.Bool.{true, false}
 use mathlib.Core.List.{List, [], _∷_, _++_}
 use lib.Dec.{ltb}
-use lib.ListN.{length, getD}
+use lib.ListN.{length, getD, take, drop}
 use Rattle.geometry.specs.Sizes.{widest, mostRects}
 use Rattle.geometry.specs.Layout.{coveredArea, rectsOf, Drawn}
 use Rattle.geometry.specs.Overlaps.{common}
+use Rattle.sweep.specs.declared.Lengths.{Lengths}
 use Rattle.sweep.specs.declared.Side.{Side}
 use Rattle.sweep.specs.declared.Side.the-variants.{Low, High}
 use Rattle.sweep.specs.Order.{columnOn, placesBy, sideOrder}
@@ -82,3 +83,9 @@ pub record StripOf (rects : List ℕ) (y1 y2 : ℕ) (lows highs : List ℕ) : Ty
   pub high : highs ≡ stripSides rects High y1 y2
   pub strip : Strip lows highs
   pub areas : (x1 x2 : ℕ) → x1 ≤ x2 → stripSum lows highs x1 x2 ≡ coveredArea (rectsOf rects) (record { x1 = x1; y1 = y1; x2 = x2; y2 = y2 })
+
+-- and in a buffer: its low sides at the front, its high sides right behind them
+pub record StripIn (rects : List ℕ) (y1 y2 : ℕ) (buffer : List ℕ) (r : Lengths) : Type 0 where
+  pub order : r .low ≤ r .both
+  pub within : r .both ≤ length buffer
+  pub lent : StripOf rects y1 y2 (take (r .low) buffer) (take (r .both - r .low) (drop (r .low) buffer))

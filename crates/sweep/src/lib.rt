@@ -9,14 +9,14 @@ mod cursors;
 mod ordering;
 mod strips;
 
-ghost use Prim.Native.Nat.{_-_, _*_, _/_, _≤_};
+ghost use Prim.Native.Nat.{_*_, _/_, _≤_};
 ghost use mathlib.Core.Path.{_≡_};
 ghost use mathlib.Core.List.{_++_};
-ghost use lib.ListN.{length, take, drop};
+ghost use lib.ListN.{length};
 ghost use Rattle.buffers.specs.Written.{Front};
 ghost use Rattle.sweep.specs.declared.Side.the-variants.{Low, High};
 ghost use Rattle.sweep.specs.Order.{sideOrder};
-ghost use Rattle.sweep.specs.Strips.{stripRoom, stripSides, Strip, Swept, StripOf};
+ghost use Rattle.sweep.specs.Strips.{stripRoom, stripSides, Strip, Swept, StripIn};
 ghost use Rattle.sweep.specs.Cursors.{startFrame, frameAt, TrueArea, Behind, ColumnsInOrder};
 use geometry::MOST_RECTS;
 
@@ -82,7 +82,7 @@ pub fn strip(rects: &[u64], order: &[usize], y1: u64, y2: u64, out: &mut [u64]) 
     requires { ⌜ Swept (now rects) (now order) ⌝ }
     requires { ⌜ stripRoom ≤ length (now out) ⌝ }
     ensures { λ r. ⌜ Front (now (out .entry)) (stripSides (now (rects .entry)) Low y1 y2 ++ stripSides (now (rects .entry)) High y1 y2) (now (out .exit)) (r .both) ⌝ }
-    ensures { λ r. ⌜ (r .low ≤ r .both) × StripOf (now (rects .entry)) y1 y2 (take (r .low) (now (out .exit))) (take (r .both - r .low) (drop (r .low) (now (out .exit)))) ⌝ }
+    ensures { λ r. ⌜ StripIn (now (rects .entry)) y1 y2 (now (out .exit)) r ⌝ }
 {
     let half = rects.len() / 4;
     let low = strips::sides_of(rects, &order[..half], Side::Low, y1, y2, out);

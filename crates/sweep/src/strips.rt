@@ -1,8 +1,9 @@
 // Strips: what some rows hold of the rectangles, as two lists of sides.
 ghost use Prim.Native.Nat.{_+_, _*_, _≤_};
+ghost use mathlib.Core.Path.{_≡_};
 ghost use lib.ListN.{length};
 ghost use Rattle.buffers.specs.Written.{Written, Front};
-ghost use Rattle.sweep.specs.Order.{columnOn, IsPlace, Places};
+ghost use Rattle.sweep.specs.Order.{IsPlace, Places};
 ghost use Rattle.sweep.specs.Strips.{sidePart, rowsOn, sidesAt};
 use crate::Side;
 use crate::ordering::column_at;
@@ -21,23 +22,12 @@ fn put_side(out: &mut [u64], at: usize, column: u64, rows: u64) -> usize
     }
 }
 
-// Writes what the rows y1 to y2 hold of a side of the rectangle at place i.
-fn put_part(
-    rects: &[u64],
-    side: Side,
-    i: usize,
-    y1: u64,
-    y2: u64,
-    out: &mut [u64],
-    at: usize,
-) -> usize
-    requires { ⌜ IsPlace (now rects) i ⌝ }
-    requires { ⌜ at + 2 ≤ length (now out) ⌝ }
-    ensures { λ r. ⌜ Written (now (out .entry)) at (sidePart (columnOn (now (rects .entry)) side i) (rowsOn (now (rects .entry)) y1 y2 i)) (now (out .exit)) r ⌝ }
+// The rows from y1 to y2 that the rectangle at a place of a table has.
+fn rows_at(rects: &[u64], at: usize, y1: u64, y2: u64) -> u64
+    requires { ⌜ IsPlace (now rects) at ⌝ }
+    ensures { λ r. ⌜ r ≡ rowsOn (now (rects .entry)) y1 y2 at ⌝ }
 {
-    let column = column_at(rects, side, i);
-    let rows = geometry::common_length(rects[i + 1], rects[i + 3], y1, y2);
-    put_side(out, at, column, rows)
+    geometry::common_length(rects[at + 1], rects[at + 3], y1, y2)
 }
 
 // Writes the sides that the rows y1 to y2 hold, in the order of the places that
@@ -57,7 +47,10 @@ pub(crate) fn sides_of(
     let mut at: usize = 0;
     let mut i: usize = 0;
     while i < places.len() {
-        at = put_part(rects, side, places[i], y1, y2, out, at);
+        let place = places[i];
+        let column = column_at(rects, side, place);
+        let rows = rows_at(rects, place, y1, y2);
+        at = put_side(out, at, column, rows);
         i += 1;
     }
     at

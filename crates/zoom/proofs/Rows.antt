@@ -9,7 +9,8 @@ use Rattle.geometry.specs.declared.Rect.{Rect}
 use Rattle.geometry.specs.declared.Sense.{Sense}
 use Rattle.geometry.specs.declared.Sense.the-variants.{Greatest, Least}
 use Rattle.geometry.specs.Layout.{coveredArea, rectsOf}
-use Rattle.sweep.specs.Strips.{StripOf}
+use Rattle.sweep.specs.declared.Lengths.{Lengths}
+use Rattle.sweep.specs.Strips.{StripOf, StripIn}
 use Rattle.zoom.specs.declared.Grid.{Grid}
 use Rattle.zoom.specs.declared.Level.{Level}
 use Rattle.zoom.specs.declared.Pass.{Pass}
@@ -19,7 +20,7 @@ use Rattle.zoom.specs.Grid.{Sized}
 use Rattle.zoom.specs.Spans.{spanFrom, spanTo, alongStrip}
 use Rattle.zoom.specs.Passing.{HarmlessRow, Spares, flagsInRow, flagOf}
 use Rattle.zoom.specs.Weighing.{weighed, farInRow}
-use Rattle.zoom.specs.Passes.{stepOf, areaOn, withNamed, passInRow, flagsPassed}
+use Rattle.zoom.specs.Passes.{stepIn, stepOf, areaIn, areaOn, withNamed, passInRow, flagsPassed}
 use Rattle.zoom.proofs.Folds.{row-cong}
 use Rattle.zoom.proofs.Starts.{standard-is-far}
 use Rattle.zoom.proofs.PassOver.{standard-no-better}
@@ -27,9 +28,12 @@ use Rattle.zoom.proofs.PassLoops.{start-inside}
 use Rattle.zoom.proofs.Waiting.{span-upright}
 
 -- the step of a pass is no larger than the window
-pub step-small : (p : Pass) (g : Grid) → Sized g → stepOf p g ≤ g .w
-step-small Standard g z = omega arith
-step-small Far g z = z .step-fits
+step-within : (p : Pass) (t w : ℕ) → t ≤ w → stepIn p t ≤ w
+step-within Standard t w h = omega arith
+step-within Far t w h = h
+
+pub step-small : (g : Grid) → Sized g → stepOf g ≤ g .w
+step-small g z = step-within (g .pass) (g .t) (g .w) (z .step-fits)
 
 -- the box of a far window, by its spans
 span-box : (s : Sense) (rs : List Rect) (n w u x y : ℕ) →
@@ -64,46 +68,47 @@ flags-cong Far s best f g t y at k l h = flags-row-cong s best (λ x. f x y) (λ
 
 -- ---- a row and its strip
 
-pub strip-of-pass : (p : Pass) (t : List ℕ) (g : Grid) (j u y1 y2 : ℕ) (lows highs : List ℕ) → u ≡ stepOf p g → y1 ≡ spanFrom (g .sense) u (j * g .t) →
-    y2 ≡ spanTo (g .sense) (g .n) (g .w) u (j * g .t) → StripOf t y1 y2 lows highs →
-    StripOf t (spanFrom (g .sense) (stepOf p g) (j * g .t)) (spanTo (g .sense) (g .n) (g .w) (stepOf p g) (j * g .t)) lows highs
-strip-of-pass p t g j u y1 y2 lows highs e f h s =
-    subst (λ (u : ℕ). StripOf t (spanFrom (g .sense) u (j * g .t)) (spanTo (g .sense) (g .n) (g .w) u (j * g .t)) lows highs) e
-    (subst₂ (λ (a b : ℕ). StripOf t a b lows highs) f h s)
+pub strip-of-pass : (t : List ℕ) (g : Grid) (j u y1 y2 : ℕ) (out : List ℕ) (r : Lengths) → u ≡ stepOf g → y1 ≡ spanFrom (g .sense) u (j * g .t) →
+    y2 ≡ spanTo (g .sense) (g .n) (g .w) u (j * g .t) → StripIn t y1 y2 out r →
+    StripIn t (spanFrom (g .sense) (stepOf g) (j * g .t)) (spanTo (g .sense) (g .n) (g .w) (stepOf g) (j * g .t)) out r
+strip-of-pass t g j u y1 y2 out r e f h s =
+    subst (λ (u : ℕ). StripIn t (spanFrom (g .sense) u (j * g .t)) (spanTo (g .sense) (g .n) (g .w) u (j * g .t)) out r) e
+    (subst₂ (λ (a b : ℕ). StripIn t a b out r) f h s)
 
-module _ (p : Pass) (t : List ℕ) (g : Grid) (j : ℕ) (z : Sized g) (k : j < g .starts) (lows highs : List ℕ)
-    (lent : StripOf t (spanFrom (g .sense) (stepOf p g) (j * g .t)) (spanTo (g .sense) (g .n) (g .w) (stepOf p g) (j * g .t)) lows highs) where
+module _ (t : List ℕ) (g : Grid) (j : ℕ) (z : Sized g) (k : j < g .starts) (lows highs : List ℕ)
+    (lent : StripOf t (spanFrom (g .sense) (stepOf g) (j * g .t)) (spanTo (g .sense) (g .n) (g .w) (stepOf g) (j * g .t)) lows highs) where
   -- the areas along the strip are those of the pass's windows
-  pass-areas : (q : Pass) → (i : ℕ) → i < g .starts → farArea (g .sense) (rectsOf t) (g .n) (g .w) (stepOf q g) (i * g .t) (j * g .t) ≡ areaOn q g t (i * g .t) (j * g .t)
+  pass-areas : (q : Pass) → (i : ℕ) → i < g .starts →
+      farArea (g .sense) (rectsOf t) (g .n) (g .w) (stepIn q (g .t)) (i * g .t) (j * g .t) ≡ areaIn q g t (i * g .t) (j * g .t)
   pass-areas Standard i h =
       sym (standard-is-far (g .sense) (rectsOf t) (g .n) (g .w) (i * g .t) (j * g .t) (start-inside g i z h) (start-inside g j z k))
   pass-areas Far i h = refl
 
-  strip-areas : (i : ℕ) → i < g .starts → alongStrip lows highs g (stepOf p g) (i * g .t) (j * g .t) ≡ areaOn p g t (i * g .t) (j * g .t)
+  strip-areas : (i : ℕ) → i < g .starts → alongStrip lows highs g (stepOf g) (i * g .t) (j * g .t) ≡ areaOn g t (i * g .t) (j * g .t)
   strip-areas i h =
-      lent .areas (spanFrom (g .sense) (stepOf p g) (i * g .t)) (spanTo (g .sense) (g .n) (g .w) (stepOf p g) (i * g .t))
-      (span-upright (g .sense) (g .n) (g .w) (stepOf p g) (i * g .t) (step-small p g z) (start-inside g i z h))
-      ∙ span-box (g .sense) (rectsOf t) (g .n) (g .w) (stepOf p g) (i * g .t) (j * g .t)
-      ∙ pass-areas p i h
+      lent .areas (spanFrom (g .sense) (stepOf g) (i * g .t)) (spanTo (g .sense) (g .n) (g .w) (stepOf g) (i * g .t))
+      (span-upright (g .sense) (g .n) (g .w) (stepOf g) (i * g .t) (step-small g z) (start-inside g i z h))
+      ∙ span-box (g .sense) (rectsOf t) (g .n) (g .w) (stepOf g) (i * g .t) (j * g .t)
+      ∙ pass-areas (g .pass) i h
 
   -- what is harmless in the row is harmless along its strip
   harmless-pass : (q : Pass) (flags : List ℕ) (best : ℕ) → HarmlessRow (g .sense) (rectsOf t) (g .n) (g .w) (g .t) flags (g .stride) j best →
-      Spares (g .sense) (λ x. areaOn q g t x (j * g .t)) (g .t) (g .starts) flags (g .stride) j best
+      Spares (g .sense) (λ x. areaIn q g t x (j * g .t)) (g .t) (g .starts) flags (g .stride) j best
   harmless-pass Standard flags best h i l e =
       standard-no-better (g .sense) (rectsOf t) (g .n) (g .w) (g .t) i j best (z .some-step) (z .inside) (rw (z .count) at l) (rw (z .count) at k)
       (h i (rw (z .count) at l) e)
   harmless-pass Far flags best h i l e = h i (rw (z .count) at l) e
 
   pub harmless-strip : (flags : List ℕ) (best : ℕ) → HarmlessRow (g .sense) (rectsOf t) (g .n) (g .w) (g .t) flags (g .stride) j best →
-      Spares (g .sense) (λ x. alongStrip lows highs g (stepOf p g) x (j * g .t)) (g .t) (g .starts) flags (g .stride) j best
-  harmless-strip flags best h i l e = rw (strip-areas i l) (harmless-pass p flags best h i l e)
+      Spares (g .sense) (λ x. alongStrip lows highs g (stepOf g) x (j * g .t)) (g .t) (g .starts) flags (g .stride) j best
+  harmless-strip flags best h i l e = rw (strip-areas i l) (harmless-pass (g .pass) flags best h i l e)
 
   pub row-by-strip : (before : Level) →
-      passInRow p (g .sense) (alongStrip lows highs g (stepOf p g)) (g .t) (j * g .t) (g .starts) before
-      ≡ passInRow p (g .sense) (areaOn p g t) (g .t) (j * g .t) (g .starts) before
-  row-by-strip before = pass-cong p (g .sense) _ _ (g .t) (j * g .t) (g .starts) before strip-areas
+      passInRow (g .pass) (g .sense) (alongStrip lows highs g (stepOf g)) (g .t) (j * g .t) (g .starts) before
+      ≡ passInRow (g .pass) (g .sense) (areaOn g t) (g .t) (j * g .t) (g .starts) before
+  row-by-strip before = pass-cong (g .pass) (g .sense) _ _ (g .t) (j * g .t) (g .starts) before strip-areas
 
   pub flags-by-strip : (best at : ℕ) (new : List ℕ) →
-      flagsPassed p (g .sense) best (alongStrip lows highs g (stepOf p g)) (g .t) (j * g .t) at (g .starts) new
-      ≡ flagsPassed p (g .sense) best (areaOn p g t) (g .t) (j * g .t) at (g .starts) new
-  flags-by-strip best at new = flags-cong p (g .sense) best _ _ (g .t) (j * g .t) at (g .starts) new strip-areas
+      flagsPassed (g .pass) (g .sense) best (alongStrip lows highs g (stepOf g)) (g .t) (j * g .t) at (g .starts) new
+      ≡ flagsPassed (g .pass) (g .sense) best (areaOn g t) (g .t) (j * g .t) at (g .starts) new
+  flags-by-strip best at new = flags-cong (g .pass) (g .sense) best _ _ (g .t) (j * g .t) at (g .starts) new strip-areas

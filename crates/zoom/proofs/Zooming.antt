@@ -17,6 +17,7 @@ use Rattle.geometry.specs.declared.Rect.{Rect}
 use Rattle.geometry.specs.declared.Spot.{Spot}
 use Rattle.geometry.specs.declared.Sense.{Sense}
 use Rattle.geometry.specs.Count.{sum, one-if}
+use Rattle.geometry.specs.Layout.{rectsOf}
 use Rattle.geometry.specs.Extreme.{better, spotAt, replaced, bestInRows, NoBetter}
 use Rattle.extremes.specs.Exact.{windowArea, extreme}
 use Rattle.zoom.specs.declared.Level.{Level}
@@ -25,13 +26,15 @@ use Rattle.zoom.specs.declared.Quick.{Quick}
 use Rattle.zoom.specs.declared.Next.{Next}
 use Rattle.zoom.specs.declared.Next.the-variants.{Ended, Deeper}
 use Rattle.zoom.specs.declared.Grid.{Grid}
-use Rattle.zoom.specs.declared.Pass.the-variants.{Far}
+use Rattle.zoom.specs.declared.Pass.{Pass}
+use Rattle.zoom.specs.declared.Pass.the-variants.{Standard, Far}
 use Rattle.zoom.specs.Run.{lastLevel, levelStep, startsOn, farArea, levelOf, levelAt, isMet, exactEnd, runFrom, quickRun}
 use Rattle.geometry.specs.Sizes.{widest}
 use Rattle.zoom.specs.Sizes.{flagsRoom, startsRoom, LevelSmall}
 use Rattle.zoom.specs.Grid.{Sized, AtStart}
 use Rattle.zoom.specs.Passing.{Harmless, flagsInRows}
 use Rattle.zoom.specs.Weighing.{farInRows}
+use Rattle.zoom.specs.Passes.{areaIn, areaOn, passInRows, flagsPassedRows, Lookable}
 use Rattle.zoom.specs.Next.{nextAfter}
 use Rattle.zoom.proofs.Folds.{no-better-trans, rows-stay}
 use Rattle.zoom.proofs.Steps.{step-next, step-halves, step-positive}
@@ -41,6 +44,21 @@ use Rattle.zoom.proofs.PassOver.{far-from-best, harmless-first, harmles
 use Rattle.zoom.proofs.PassLoops.{PassesSoFar, rows-named, far-rows-limit, far-rows-kept}
 
 -- ---- a level by its two passes
+
+-- the first pass asks nothing, names the best standard window, and leaves the flags as they were
+module _ (g : Grid) (e : g .pass ≡ Standard) (t : List ℕ) (before : Level) where
+  pub first-asks : Lookable (g .pass) (g .sense) 0 before
+  first-asks = subst (λ (p : Pass). Lookable p (g .sense) 0 before) (sym e) tt
+
+  pub first-names : (after : Level) → after ≡ passInRows (g .pass) (g .sense) (areaOn g t) (g .t) (g .starts) (g .starts) before →
+      after .named ≡ bestInRows (g .sense) (windowArea (rectsOf t) (g .w)) (g .t) (g .starts) (g .starts) (before .named)
+  first-names after h =
+      ap (λ (v : Level). v .named) (subst (λ (p : Pass). after ≡ passInRows p (g .sense) (areaIn p g t) (g .t) (g .starts) (g .starts) before) e h)
+
+  pub first-leaves : (best : ℕ) (new new′ : List ℕ) →
+      new′ ≡ flagsPassedRows (g .pass) (g .sense) best (areaOn g t) (g .t) (g .starts) (g .starts) new → new′ ≡ new
+  first-leaves best new new′ h =
+      subst (λ (p : Pass). new′ ≡ flagsPassedRows p (g .sense) best (areaIn p g t) (g .t) (g .starts) (g .starts) new) e h
 
 -- what is harmless against the window before is harmless against the level's best
 pub harmless-on : (s : Sense) (rs : List Rect) (g : Grid) (flags : List ℕ) (stride : ℕ) (before best : Spot) →

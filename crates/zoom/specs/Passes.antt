@@ -19,14 +19,22 @@ use Rattle.zoom.specs.Passing.{flagOf, flagsInRow, flagsInRows, Spares}
 use Rattle.zoom.specs.Weighing.{weighed, farInRow, farInRows, Weighable}
 
 -- the step that a pass bloats or shrinks its windows by
-abbrev pub stepOf : Pass → Grid → ℕ
-stepOf Standard g = 0
-stepOf Far g = g .t
+abbrev pub stepIn : Pass → (t : ℕ) → ℕ
+stepIn Standard t = 0
+stepIn Far t = t
 
--- the areas of its windows
-abbrev pub areaOn : Pass → Grid → (rects : List ℕ) → (x y : ℕ) → ℕ
-areaOn Standard g rects = windowArea (rectsOf rects) (g .w)
-areaOn Far g rects = farOn g rects
+-- that of a grid's own pass
+abbrev pub stepOf : Grid → ℕ
+stepOf g = stepIn (g .pass) (g .t)
+
+-- the areas of a pass's windows
+abbrev pub areaIn : Pass → Grid → (rects : List ℕ) → (x y : ℕ) → ℕ
+areaIn Standard g rects = windowArea (rectsOf rects) (g .w)
+areaIn Far g rects = farOn g rects
+
+-- those of a grid's own pass
+abbrev pub areaOn : Grid → (rects : List ℕ) → (x y : ℕ) → ℕ
+areaOn g rects = areaIn (g .pass) g rects
 
 -- the level with another window named
 abbrev pub withNamed : Level → Spot → Level
@@ -70,8 +78,8 @@ Lookable Standard s room v = Unit {0}
 Lookable Far s room v = Weighable s room v
 
 -- what a pass over row j asks, where its strip is at hand
-pub record StripPassable (p : Pass) (lows highs flags : List ℕ) (g : Grid) (j best : ℕ) : Type 0 where
+pub record StripPassable (lows highs flags : List ℕ) (g : Grid) (j best : ℕ) : Type 0 where
   pub strip : Strip lows highs
   pub sized : Sized g
   pub within : j < g .starts
-  pub spare : Spares (g .sense) (λ x. alongStrip lows highs g (stepOf p g) x (j * g .t)) (g .t) (g .starts) flags (g .stride) j best
+  pub spare : Spares (g .sense) (λ x. alongStrip lows highs g (stepOf g) x (j * g .t)) (g .t) (g .starts) flags (g .stride) j best

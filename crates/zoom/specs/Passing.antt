@@ -49,10 +49,3 @@ pub record Passable (rects order flags : List ℕ) (g : Grid) (best : ℕ) : Typ
   pub swept : Swept rects order
   pub sized : Sized g
   pub spare : Harmless (g .sense) (rectsOf rects) (g .n) (g .w) (g .t) flags (g .stride) best
-
--- what a pass over row j asks
-pub record RowPassable (rects order flags : List ℕ) (g : Grid) (j best : ℕ) : Type 0 where
-  pub swept : Swept rects order
-  pub sized : Sized g
-  pub within : j < g .starts
-  pub spare : HarmlessRow (g .sense) (rectsOf rects) (g .n) (g .w) (g .t) flags (g .stride) j best

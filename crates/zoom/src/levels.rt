@@ -2,6 +2,7 @@
 ghost use Prim.Native.Nat.{_≤_};
 ghost use mathlib.Core.Path.{_≡_};
 ghost use Rattle.geometry.specs.Layout.{rectsOf};
+ghost use Rattle.zoom.specs.declared.Pass.the-variants.{Standard};
 ghost use Rattle.zoom.specs.Run.{lastLevel, startsOn, levelOf, lowEnd, highEnd, isMet};
 ghost use Rattle.zoom.specs.Sizes.{Testable};
 ghost use Rattle.zoom.specs.Grid.{Countable, AtStart, farOn};
@@ -35,7 +36,7 @@ pub(crate) fn starts_on(n: u64, w: u64, t: u64) -> u64
 }
 
 // One level, in two passes: its window must be known before a start is kept or
-// flagged.
+// flagged. `g` is its grid for the first.
 pub(crate) fn level(
     rects: &[u64],
     order: &[usize],
@@ -46,6 +47,7 @@ pub(crate) fn level(
 ) -> Level
     requires { ⌜ Passable (now rects) (now order) (now flags) g (before .area) ⌝ }
     requires { ⌜ AtStart (rectsOf (now rects)) (g .n) (g .w) (g .t) before ⌝ }
+    requires { ⌜ g .pass ≡ Standard ⌝ }
     ensures { λ r. ⌜ r ≡ levelOf (g .sense) (rectsOf (now (rects .entry))) (g .n) (g .w) (g .t) before ⌝ }
     ensures { λ r. ⌜ now (new .exit) ≡ flagsInRows (g .sense) (r .named .area) (farOn g (now (rects .entry))) (g .t) (startsOn (g .n) (g .w) (g .t)) (startsOn (g .n) (g .w) (g .t)) (now (new .entry)) ⌝ }
 {
@@ -54,14 +56,24 @@ pub(crate) fn level(
         limit: 0,
         kept: 0,
     };
-    let first = passes::rows(Pass::Standard, rects, order, flags, new, g, none);
+    let first = passes::rows(rects, order, flags, new, g, none);
     let named = first.named;
     let start = Level {
         named,
         limit: named.area,
         kept: 0,
     };
-    passes::rows(Pass::Far, rects, order, flags, new, g, start)
+    let sense = g.sense;
+    let far = Grid {
+        sense,
+        pass: Pass::Far,
+        n: g.n,
+        w: g.w,
+        t: g.t,
+        starts: g.starts,
+        stride: g.stride,
+    };
+    passes::rows(rects, order, flags, new, far, start)
 }
 
 fn low_end(sense: Sense, level: Level) -> u64

@@ -56,12 +56,13 @@ pub struct Quick {
     pub last: Level,
 }
 
-// A level, as its two passes see it: the sense of the extreme, the layout's side
-// n, the window's side w, the step t between starts, the number of starts on an
-// axis, and how many flags a row of the level before has. The paper calls the
-// step a tile side; the fill has other tiles.
+// A level, as one of its passes sees it: the sense of the extreme, which pass it
+// is, the layout's side n, the window's side w, the step t between starts, the
+// number of starts on an axis, and how many flags a row of the level before has.
+// The paper calls the step a tile side; the fill has other tiles.
 struct Grid {
     sense: Sense,
+    pass: Pass,
     n: u64,
     w: u64,
     t: u64,
@@ -103,6 +104,7 @@ pub fn quick_run(sense: Sense, rects: &[u64], order: &[usize], asked: Asked, m: 
         let starts = starts_on(n, w, t);
         let g = Grid {
             sense,
+            pass: Pass::Standard,
             n,
             w,
             t,

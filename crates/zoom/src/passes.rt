@@ -4,11 +4,11 @@
 ghost use Prim.Native.Nat.{_+_, _*_, _≤_};
 ghost use mathlib.Core.Path.{_≡_};
 ghost use lib.ListN.{length, set};
-ghost use Rattle.sweep.specs.Strips.{stripRoom, Strip};
+ghost use Rattle.sweep.specs.Strips.{stripRoom, Strip, Swept, StripIn};
 ghost use Rattle.sweep.specs.Cursors.{frameAt, TrueArea, Behind};
 ghost use Rattle.zoom.specs.Sizes.{levelRoom, keptRoom};
 ghost use Rattle.zoom.specs.Spans.{spanFrom, spanTo, alongStrip, OnRow};
-ghost use Rattle.zoom.specs.Passing.{flagOf, Passable, RowPassable};
+ghost use Rattle.zoom.specs.Passing.{flagOf, Passable};
 ghost use Rattle.zoom.specs.Weighing.{betterArea, weighed, Weighable};
 ghost use Rattle.zoom.specs.Passes.{stepOf, areaOn, looked, flagged, passedOver, passInRow, passInRows, flagsPassed, flagsPassedRows, Lookable, StripPassable};
 use crate::Grid;
@@ -21,6 +21,7 @@ use crate::spans::span_to;
 use geometry::Sense;
 use geometry::Spot;
 use sweep::Frame;
+use sweep::Lengths;
 use sweep::STRIP_ROOM;
 
 fn better_area(sense: Sense, old: u64, new: u64) -> u64
@@ -83,9 +84,10 @@ fn pass_over(pass: Pass, new: &mut [u8], at: u64)
 }
 
 // The step that a pass bloats or shrinks its windows by.
-fn step_of(pass: Pass, g: Grid) -> u64
-    ensures { λ r. ⌜ r ≡ stepOf pass g ⌝ }
+fn step_of(g: Grid) -> u64
+    ensures { λ r. ⌜ r ≡ stepOf g ⌝ }
 {
+    let pass = g.pass;
     match pass {
         Pass::Standard => 0,
         Pass::Far => g.t,
@@ -109,7 +111,6 @@ fn frame_at(lows: &[u64], highs: &[u64], g: Grid, u: u64, i: u64, from: Frame) -
 
 // The starts of row j, by its strip.
 fn row(
-    pass: Pass,
     lows: &[u64],
     highs: &[u64],
     flags: &[u8],
@@ -118,13 +119,14 @@ fn row(
     j: u64,
     before: Level,
 ) -> Level
-    requires { ⌜ StripPassable pass (now lows) (now highs) (now flags) g j (before .named .area) ⌝ }
-    requires { ⌜ Lookable pass (g .sense) levelRoom before ⌝ }
-    ensures { λ r. ⌜ r ≡ passInRow pass (g .sense) (alongStrip (now (lows .entry)) (now (highs .entry)) g (stepOf pass g)) (g .t) (j * g .t) (g .starts) before ⌝ }
-    ensures { λ r. ⌜ now (new .exit) ≡ flagsPassed pass (g .sense) (before .named .area) (alongStrip (now (lows .entry)) (now (highs .entry)) g (stepOf pass g)) (g .t) (j * g .t) (j * g .starts) (g .starts) (now (new .entry)) ⌝ }
+    requires { ⌜ StripPassable (now lows) (now highs) (now flags) g j (before .named .area) ⌝ }
+    requires { ⌜ Lookable (g .pass) (g .sense) levelRoom before ⌝ }
+    ensures { λ r. ⌜ r ≡ passInRow (g .pass) (g .sense) (alongStrip (now (lows .entry)) (now (highs .entry)) g (stepOf g)) (g .t) (j * g .t) (g .starts) before ⌝ }
+    ensures { λ r. ⌜ now (new .exit) ≡ flagsPassed (g .pass) (g .sense) (before .named .area) (alongStrip (now (lows .entry)) (now (highs .entry)) g (stepOf g)) (g .t) (j * g .t) (j * g .starts) (g .starts) (now (new .entry)) ⌝ }
 {
     let sense = g.sense;
-    let u = step_of(pass, g);
+    let pass = g.pass;
+    let u = step_of(g);
     let above = j / 2 * g.stride;
     let at = j * g.starts;
     let y = j * g.t;
@@ -149,48 +151,23 @@ fn row(
     so_far
 }
 
-// The starts of row j.
-fn row_at(
-    pass: Pass,
-    rects: &[u64],
-    order: &[usize],
-    flags: &[u8],
-    new: &mut [u8],
-    g: Grid,
-    j: u64,
-    before: Level,
-    sides: &mut [u64],
-) -> Level
-    requires { ⌜ RowPassable (now rects) (now order) (now flags) g j (before .named .area) ⌝ }
-    requires { ⌜ Lookable pass (g .sense) levelRoom before ⌝ }
-    requires { ⌜ stripRoom ≤ length (now sides) ⌝ }
-    ensures { λ r. ⌜ r ≡ passInRow pass (g .sense) (areaOn pass g (now (rects .entry))) (g .t) (j * g .t) (g .starts) before ⌝ }
-    ensures { λ r. ⌜ now (new .exit) ≡ flagsPassed pass (g .sense) (before .named .area) (areaOn pass g (now (rects .entry))) (g .t) (j * g .t) (j * g .starts) (g .starts) (now (new .entry)) ⌝ }
+// Writes the strip of the windows of row j at the front of a buffer.
+fn row_strip(rects: &[u64], order: &[usize], g: Grid, j: u64, out: &mut [u64]) -> Lengths
+    requires { ⌜ Swept (now rects) (now order) ⌝ }
+    requires { ⌜ OnRow g (stepOf g) j ⌝ }
+    requires { ⌜ stripRoom ≤ length (now out) ⌝ }
+    ensures { λ r. ⌜ StripIn (now (rects .entry)) (spanFrom (g .sense) (stepOf g) (j * g .t)) (spanTo (g .sense) (g .n) (g .w) (stepOf g) (j * g .t)) (now (out .exit)) r ⌝ }
 {
     let sense = g.sense;
-    let u = step_of(pass, g);
+    let u = step_of(g);
     let y = j * g.t;
     let y1 = span_from(sense, u, y);
     let y2 = span_to(sense, g.n, g.w, u, y);
-    let lengths = sweep::strip(rects, order, y1, y2, sides);
-    let low = lengths.low;
-    let both = lengths.both;
-    let strip = &sides[..];
-    row(
-        pass,
-        &strip[..low],
-        &strip[low..both],
-        flags,
-        new,
-        g,
-        j,
-        before,
-    )
+    sweep::strip(rects, order, y1, y2, out)
 }
 
 // All rows.
 pub(crate) fn rows(
-    pass: Pass,
     rects: &[u64],
     order: &[usize],
     flags: &[u8],
@@ -199,15 +176,19 @@ pub(crate) fn rows(
     before: Level,
 ) -> Level
     requires { ⌜ Passable (now rects) (now order) (now flags) g (before .named .area) ⌝ }
-    requires { ⌜ Lookable pass (g .sense) 0 before ⌝ }
-    ensures { λ r. ⌜ r ≡ passInRows pass (g .sense) (areaOn pass g (now (rects .entry))) (g .t) (g .starts) (g .starts) before ⌝ }
-    ensures { λ r. ⌜ now (new .exit) ≡ flagsPassedRows pass (g .sense) (before .named .area) (areaOn pass g (now (rects .entry))) (g .t) (g .starts) (g .starts) (now (new .entry)) ⌝ }
+    requires { ⌜ Lookable (g .pass) (g .sense) 0 before ⌝ }
+    ensures { λ r. ⌜ r ≡ passInRows (g .pass) (g .sense) (areaOn g (now (rects .entry))) (g .t) (g .starts) (g .starts) before ⌝ }
+    ensures { λ r. ⌜ now (new .exit) ≡ flagsPassedRows (g .pass) (g .sense) (before .named .area) (areaOn g (now (rects .entry))) (g .t) (g .starts) (g .starts) (now (new .entry)) ⌝ }
 {
     let mut sides = [0u64; STRIP_ROOM];
     let mut so_far = before;
     let mut j: u64 = 0;
     while j < g.starts {
-        so_far = row_at(pass, rects, order, flags, new, g, j, so_far, &mut sides);
+        let lengths = row_strip(rects, order, g, j, &mut sides);
+        let low = lengths.low;
+        let both = lengths.both;
+        let strip = &sides[..];
+        so_far = row(&strip[..low], &strip[low..both], flags, new, g, j, so_far);
         j += 1;
     }
     so_far

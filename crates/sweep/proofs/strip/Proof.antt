@@ -59,7 +59,7 @@ returns c =
     let high =
     sides-known (a .rects .now) High (a .y1) (a .y2) _ _ _ _ (order-high (a .rects .now) (a .order .now) (s .pre .0 .ordered)) (c .before .before .sides-of2 .ensures) in
     let both = front-then _ _ _ _ _ _ _ low high in
-    (both, (omega arith, strip-lent (a .rects .now) (a .y1) (a .y2) _ _ _ _ (s .pre .0 .drawn) (low .count) both))
+    (both, strip-lent (a .rects .now) (a .y1) (a .y2) _ _ _ (s .pre .0 .drawn) (low .count) both)
 
 pub strip-spec : {M : Type 1} → statement M
 strip-spec =

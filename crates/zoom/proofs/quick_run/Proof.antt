@@ -1,7 +1,7 @@
 -- `zoom::quick_run` meets its contract. The loop's invariant: the run from level j on is the whole run's answer, and after the window that
 -- stands comes level j. The measure is the number of levels left. Assumes nothing.
 use Prim.Native.Nat.{_-_, _≤_}
-use mathlib.Core.Path.{sym}
+use mathlib.Core.Path.{refl, sym}
 use native.Mathlib.Nat.{div-le-self}
 use native.Mathlib.Omega.{arith}
 use borrow.Author.Needs.{needs}
@@ -47,7 +47,7 @@ level-requires c κs =
         sized = record { small = p .small; inside = p .window-fits; some-step = step .0; step-fits = step .1; count = c .before .before .starts-on .ensures; few-above = so-far .few };
         spare = so-far .spare;
       },
-      so-far .start,
+      (so-far .start, refl),
     )
 
 next-after-requires : tie.Need-next-after-requires Inv-loop μ-loop

@@ -18,12 +18,12 @@ use Rattle.zoom.proofs.passes.row.Statement.{statement}
 use Rattle.zoom.proofs.passes.row.Tie as tie
 
 abbrev Inv-loop : tie.InvT-loop
-Inv-loop pass lows highs flags new₀ g j sense u above at y frame₀ so-far₀ i₀ new frame so-far i =
+Inv-loop lows highs flags new₀ g j sense pass u above at y frame₀ so-far₀ i₀ new frame so-far i =
     (i ≤ g .starts) × Behind lows highs frame (spanFrom (g .sense) u (i * g .t)) (spanTo (g .sense) (g .n) (g .w) u (i * g .t))
-    × PassSoFar pass (g .sense) (alongStrip lows highs g (stepOf pass g)) (g .t) (j * g .t) (j * g .starts) i so-far₀ so-far new₀ new
+    × PassSoFar (g .pass) (g .sense) (alongStrip lows highs g (stepOf g)) (g .t) (j * g .t) (j * g .starts) i so-far₀ so-far new₀ new
 
 abbrev μ-loop : tie.MeasureT-loop
-μ-loop pass lows highs flags new₀ g j sense u above at y frame₀ so-far₀ i₀ new frame so-far i = g .starts - i
+μ-loop lows highs flags new₀ g j sense pass u above at y frame₀ so-far₀ i₀ new frame so-far i = g .starts - i
 
 -- 64 bits hold the places of the row's flags, here and in the level before, and its windows
 above-fits : (s : tie.Start Inv-loop μ-loop) → s .args .j / 2 * s .args .g .stride ≤ levelRoom
@@ -43,7 +43,7 @@ mul-y c =
 loop-holds : tie.Need-loop-holds Inv-loop μ-loop
 loop-holds c =
     let s = c .before .before .before .before .before .before .before .before .before in
-    (omega arith, behind-start _ _ _ _ _ (s .pre .0 .strip) (c .start-frame .ensures), pass-begins (s .args .pass) _ _ _ _ _ _ _)
+    (omega arith, behind-start _ _ _ _ _ (s .pre .0 .strip) (c .start-frame .ensures), pass-begins (s .args .g .pass) _ _ _ _ _ _ _)
 
 loop-again : tie.Need-loop-again Inv-loop μ-loop
 loop-again c =
@@ -54,7 +54,7 @@ loop-again c =
     let flagged = sym (c .before .before .before .before .before .flag-at .ensures) ∙ c .before .before .before .before .if2 .taken in (
       omega (arith, more),
       behind-later _ _ _ _ _ _ _ (at .inv .1) (from-next (a .g) _ (at .i)) (to-next (a .g) _ (at .i)),
-      pass-skips (a .pass) _ _ _ _ _ _ _ _ _ _ (at .inv .2) (a .g .starts) (a .flags .now) (a .g .stride) (a .j) _ (s .pre .0 .spare) more (few s) flagged (s .pre .1)
+      pass-skips (a .g .pass) _ _ _ _ _ _ _ _ _ _ (at .inv .2) (a .g .starts) (a .flags .now) (a .g .stride) (a .j) _ (s .pre .0 .spare) more (few s) flagged (s .pre .1)
           (c .before .before .pass-over .ensures),
     )
 
@@ -64,7 +64,7 @@ frame-at-requires c κs =
     let z = s .pre .0 .sized in (
       s .pre .0 .strip,
       (
-        record { sized = z; step-fits = omega (arith, c .before .before .before .before .before .before .before .before .before .step-of .ensures, step-small (s .args .pass) (s .args .g) z); within = c .before .before .if1 .taken },
+        record { sized = z; step-fits = omega (arith, c .before .before .before .before .before .before .before .before .before .step-of .ensures, step-small (s .args .g) z); within = c .before .before .if1 .taken },
         c .before .before .before .before .loop .inv .1,
       ),
     )
@@ -78,7 +78,7 @@ look-requires : tie.Need-look-requires Inv-loop μ-loop
 look-requires c κs =
     let s = c .before .before .before .before .before .before .before .before .before .before .before .before .before .before .before .before .before in
     let at = c .before .before .before .before .before .before .before .loop in
-    pass-lookable (s .args .pass) _ _ _ _ _ _ _ _ _ _ (at .inv .2) (omega (arith, at .inv .0, few s)) (s .pre .1)
+    pass-lookable (s .args .g .pass) _ _ _ _ _ _ _ _ _ _ (at .inv .2) (omega (arith, at .inv .0, few s)) (s .pre .1)
 
 loop-again-2 : tie.Need-loop-again-2 Inv-loop μ-loop
 loop-again-2 c =
@@ -89,7 +89,7 @@ loop-again-2 c =
     let x = at .i * a .g .t in (
       omega (arith, c .before .before .before .before .before .before .before .before .if1 .taken),
       behind-moved _ _ _ _ _ _ _ (frame .0) (frame .1) (from-next (a .g) _ (at .i)) (to-next (a .g) _ (at .i)),
-      pass-looks (a .pass) _ _ _ _ _ _ _ _ _ _ (at .inv .2) _ _ _
+      pass-looks (a .g .pass) _ _ _ _ _ _ _ _ _ _ (at .inv .2) _ _ _
           (ap (λ (f : Frame). f .area) (frame .0) ∙ ap (λ (u : ℕ). alongStrip (a .lows .now) (a .highs .now) (a .g) u x (a .j * a .g .t)) (c .before .before .before .before .before .before .before .before .before .before .before .before .before .before .before .step-of .ensures))
           (look .ensures .0) (look .ensures .1),
     )
@@ -97,7 +97,7 @@ loop-again-2 c =
 returns : tie.Need-returns Inv-loop μ-loop
 returns c =
     let at = c .before .before .loop in
-    let done = pass-done (c .before .before .before .before .before .before .before .before .before .before .before .before .args .pass) _ _ _ _ _ _ _ _ _ _ (at .inv .2) (c .before .before .before .before .before .before .before .before .before .before .before .before .args .g .starts) (at .inv .0) (c .if1 .left) in
+    let done = pass-done (c .before .before .before .before .before .before .before .before .before .before .before .before .args .g .pass) _ _ _ _ _ _ _ _ _ _ (at .inv .2) (c .before .before .before .before .before .before .before .before .before .before .before .before .args .g .starts) (at .inv .0) (c .if1 .left) in
     (done .search, done .flags)
 
 pub row-spec : {M : Type 1} → statement M
@@ -126,5 +126,5 @@ row-spec =
     (λ c. omega (arith, few (c .before .before .before .before .before .before .before .before .before .before .before .before .before .before .before .before .before .before .before .before), c .before .before .before .before .before .before .before .before .if1 .taken))
     (λ c. omega (arith, c .before .before .before .before .before .before .before .before .if1 .taken))
     loop-again-2
-    (λ c. pass-length (c .before .before .before .before .before .before .before .before .before .before .before .before .args .pass) _ _ _ _ _ _ _ _ _ _ (c .before .before .loop .inv .2))
+    (λ c. pass-length (c .before .before .before .before .before .before .before .before .before .before .before .before .args .g .pass) _ _ _ _ _ _ _ _ _ _ (c .before .before .loop .inv .2))
     returns)
