@@ -2,6 +2,7 @@
 //! shared object keeps the two apart, because their entries have the same names.
 
 use crate::{AnswerEntry, Library, PhaseEntry};
+use std::collections::BTreeMap;
 use std::ffi::{c_char, c_int, c_void, CStr, CString};
 use std::mem::transmute;
 
@@ -51,4 +52,23 @@ fn found(pointer: *mut c_void) -> Result<*mut c_void, String> {
         return Err(message.to_string_lossy().into_owned());
     }
     Ok(pointer)
+}
+
+/// The lines of a printed text by the word that each begins with: no text has two
+/// lines with one word.
+fn lines_by_word(printed: &str) -> BTreeMap<&str, &str> {
+    let word = |line: &'_ str| line.find(' ').unwrap_or(line.len());
+    printed.lines().map(|line| (&line[..word(line)], line)).collect()
+}
+
+/// The lines that are not the same in what two states print for a job, each as
+/// it is now and as it was before; empty where there is none with its word.
+pub fn changed_lines<'a>(now: &'a str, before: &'a str) -> Vec<[&'a str; 2]> {
+    let texts = [now, before].map(lines_by_word);
+    let mut words: Vec<&str> = texts.iter().flat_map(|lines| lines.keys().copied()).collect();
+    words.sort_unstable();
+    words.dedup();
+    let line_of = |word: &&str| texts.each_ref().map(|lines| lines.get(word).copied().unwrap_or(""));
+    let pairs = words.iter().map(line_of);
+    pairs.filter(|[now, before]| now != before).collect()
 }

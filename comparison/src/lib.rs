@@ -57,6 +57,15 @@ impl Library {
         }
     }
 
+    /// What the program prints for a job: its answer or its refusal.
+    pub fn printed(&self, file: &[u8]) -> String {
+        let (reply, out) = answered(|file, out| self.answer(file, out), file, ANSWER_ROOM);
+        match reply {
+            Reply::Accepted(length) => String::from_utf8_lossy(&out[..length]).into_owned(),
+            Reply::Refused { number, line } => format!("(refused {number} {line})\n"),
+        }
+    }
+
     /// Reads a job and runs one phase, for the benchmark: 1 is the exact run,
     /// which gives the greatest area; 2 the exact run and the quick run for the
     /// greatest, which gives the ceiling; 3 the exact run and the quick run for

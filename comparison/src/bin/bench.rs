@@ -9,15 +9,15 @@
 //! for one that noise hides.
 //!
 //! An argument names an earlier state of the library, which is then timed in turn
-//! with the linked one and held to the same answers. It is a shared object, made
-//! in that state's checkout by
+//! with the linked one; the lines in which their answers differ are shown. It is a
+//! shared object, made in that state's checkout by
 //!
 //! ```text
 //! cc -shared -o earlier.so -Wl,--whole-archive target/staticlib/libunit.a target/staticlib/libphases.a -Wl,--no-whole-archive
 //! ```
 
 use comparison::timing::{in_turn, Sample};
-use comparison::{answered, earlier, on_large_stack, plain, Library, LINKED};
+use comparison::{earlier, on_large_stack, plain, Library, LINKED};
 use reference::answer::{answer, ANSWER_ROOM};
 use reference::fast;
 use reference::generate::{large_jobs, LargeJob};
@@ -150,16 +150,13 @@ fn second_times(file: &[u8], unfilled_file: &[u8], job: &Job) -> Times {
     }
 }
 
-/// Holds the libraries to one answer, and to one number for each phase.
-fn assert_same(libraries: &[Library], large: &LargeJob) {
-    let (name, file) = (large.name, &large.job);
+/// Shows what the linked library and an earlier one answer differently.
+fn print_changes(libraries: &[Library], file: &[u8]) {
     for earlier in &libraries[1..] {
-        let [now, before] = [&LINKED, earlier].map(|library| {
-            let phases = [1, 2, 3, 4].map(|number| library.phase(file, number));
-            let answer = |file: &[u8], out: &mut [u8]| library.answer(file, out);
-            (phases, answered(answer, file, ANSWER_ROOM))
-        });
-        assert_eq!(now, before, "{name}: now and before");
+        let (now, before) = (LINKED.printed(file), earlier.printed(file));
+        for [now, before] in earlier::changed_lines(&now, &before) {
+            println!("  now {now}, before {before}");
+        }
     }
 }
 
@@ -228,7 +225,6 @@ fn print_table(libraries: &[Times], second: &Times, [strips, all]: [Milliseconds
 }
 
 fn bench(libraries: &[Library], large: &LargeJob) {
-    assert_same(libraries, large);
     let (file, unfilled_file) = (&large.job, large.without_fills());
     let job = fast::read(file).expect("large jobs are valid");
     let proved = proved_times(libraries, file, &unfilled_file);
@@ -236,6 +232,7 @@ fn bench(libraries: &[Library], large: &LargeJob) {
     let loops = [plain::summing_strips, plain::summing_all]
         .map(|areas| above_noise(least_time(|| areas(&job))));
     println!("{} ({} bytes)", large.name, file.len());
+    print_changes(libraries, file);
     print_table(&proved, &second, loops);
 }
 

@@ -2,6 +2,7 @@
 use mathlib.Core.Path.{_≡_, refl}
 use mathlib.Core.List.{_++_}
 use lib.Count.{trailingZeros}
+use Rattle.rounding.specs.Nearest.{rounded}
 use Rattle.geometry.specs.Count.{sum, rectSum}
 use Rattle.geometry.specs.Layout.{covered}
 use Rattle.geometry.specs.Extreme.{bestInRow, bestInRows}
@@ -20,5 +21,5 @@ use Rattle.unit.specs.Answering.{answerOf, textOf}
 use Rattle.unit.specs.Cases.{phaseRows, printedLines, byteRows}
 
 pub cases : foundIn (phaseRows ++ byteRows) ≡ statedIn (phaseRows ++ byteRows)
-unfolding sum rectSum covered bestInRow bestInRows extreme levelOf levelAt runFrom quickRun trailingZeros clearOfAll failingInRow failingInRows standardFailing marginFailing bytes pieces decimal decimalIn digitsOf pastDigits valueFrom sameBytes spell readAs headPattern rectPattern fillPattern endPattern formOf shapeFault fillFault lineFault standsAfter readLines outcomeOf answerOf textOf printedLines
+unfolding rounded sum rectSum covered bestInRow bestInRows extreme levelOf levelAt runFrom quickRun trailingZeros clearOfAll failingInRow failingInRows standardFailing marginFailing bytes pieces decimal decimalIn digitsOf pastDigits valueFrom sameBytes spell readAs headPattern rectPattern fillPattern endPattern formOf shapeFault fillFault lineFault standsAfter readLines outcomeOf answerOf textOf printedLines
 cases = refl

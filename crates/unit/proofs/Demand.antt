@@ -6,6 +6,8 @@ use mathlib.Core.List.{List, [], _∷_}
 use native.Mathlib.Nat.{mul-le-mul-right}
 use native.Mathlib.Omega.{arith}
 use lib.ListN.{getD}
+use Rattle.rounding.specs.Nearest.{distance, Rounds}
+use Rattle.rounding.proofs.Rounding.{nearest-rounds, rounds, nearest-reduced}
 use Rattle.geometry.specs.declared.Rect.{Rect}
 use Rattle.geometry.specs.declared.Spot.{Spot}
 use Rattle.geometry.specs.declared.Sense.{Sense}
@@ -21,6 +23,7 @@ use Rattle.zoom.specs.declared.Level.{Level}
 use Rattle.zoom.specs.declared.Quick.{Quick}
 use Rattle.zoom.specs.Run.{lastLevel, levelStep, lowEnd, highEnd, endNumber}
 use Rattle.zoom.specs.Grid.{AtStart}
+use Rattle.zoom.proofs.Numbers.{some-squares}
 use Rattle.zoom.proofs.Steps.{step-positive}
 use Rattle.zoom.proofs.Starts.{start-fits, fits-start}
 use Rattle.zoom.proofs.Bracket.{Bracketing, Promised, Accurate, quick-run-promises, levels-at-most, named-start, named-over-starts, level-brackets, level-narrows}
@@ -39,7 +42,7 @@ use Rattle.jobfile.specs.declared.Head.{Head}
 use Rattle.jobfile.specs.Forms.{tileSide, tilesAcross, planOf}
 use Rattle.jobfile.specs.Faults.{Standing}
 use Rattle.unit.specs.Answering.{quickOf, answerOf, quickIn}
-use Rattle.unit.specs.Promise.{shapesAt, RealWindow, distance, StartOf, EndsWith, ExactPromise, levelIn, BracketPromise, LevelPromise, QuickPromise, FillPromise, CountPromise, CountsPromise, Promises}
+use Rattle.unit.specs.Promise.{shapesAt, RealWindow, StartOf, EndsWith, ExactPromise, levelIn, BracketPromise, LevelPromise, QuickPromise, FillPromise, CountPromise, CountsPromise, DensityPromise, Promises}
 
 -- what an accepted head and its amounts say: tiles fit the window and the layout, and no amount exceeds its tile's fillable area
 pub record Runs (st : Standing) : Type 0 where
@@ -203,6 +206,34 @@ count-kept st p r =
       none-covered = λ e. no-area→no-shapes (st .shapes) b (sym (r .area) ∙ e);
     }
 
+-- ---- the density
+
+-- the middle of two ends that are off m by e thousandths of it
+met-density : (e m low high w d : ℕ) → 1000 * distance (low + high) (2 * m) ≤ 2 * e * m → 2 * distance (10000 * (low + high)) (d * (2 * w * w)) ≤ 2 * w * w →
+    2 * distance (10000 * m) (d * w * w) ≤ 20 * e * m + w * w
+met-density e m low high w d h k = omega (arith, h, k)
+
+density-kept : (st : Standing) → Runs st → DensityPromise st (quickOf Greatest st) (extreme Greatest (st .shapes) (st .head .size) (st .head .window) .area) (answerOf st .density)
+unfolding answerOf
+density-kept st r =
+    record {
+      middle = middle;
+      met = λ e. met-density (st .head .accuracy) _ _ _ w d (q .met e) (middle .nearest .near);
+      exact = λ e. nearest-rounds _ _ d (omega (arith, some-squares w (r .some-window))) (nearest-reduced (omega (arith, q .exact-ends e .0, q .exact-ends e .1)) (omega arith) (middle .nearest));
+    }
+  where
+    w : ℕ
+    w = st .head .window
+
+    d : ℕ
+    d = answerOf st .density
+
+    q : QuickPromise Greatest st (quickOf Greatest st) (extreme Greatest (st .shapes) (st .head .size) (st .head .window) .area)
+    q = quick-kept Greatest st r
+
+    middle : Rounds (10000 * (quickOf Greatest st .last .named .area + quickOf Greatest st .last .limit)) (2 * w * w) d
+    middle = rounds _ _ (some-squares w (r .some-window))
+
 -- ---- the fill
 
 dissected : (st : Standing) → Runs st → Dissected (planOf (st .head)) (st .head .size)
@@ -256,7 +287,7 @@ fill-kept st k =
 
 pub promises-kept : (st : Standing) → Runs st → Promises st (answerOf st)
 unfolding answerOf
-promises-kept st k = record { exact = exact; quick = quick; counts = counts; fill = fill-kept st k }
+promises-kept st k = record { exact = exact; quick = quick; counts = counts; density = density-kept st k; fill = fill-kept st k }
   where
     exact : (s : Sense) → ExactPromise s st (extremeIn s (answerOf st .exact))
     exact Greatest = exact-kept Greatest st

@@ -1,4 +1,4 @@
--- The cases: document 01's rows A1 to Z and our own for the least window and for the shapes under a box, each stated beside its definitions, and
+-- The cases: document 01's rows A1 to Z and those of document 02's requests and our own, for the least window, the shapes under a box and the density, each stated beside its definitions, and
 -- files by their bytes with what is printed. proofs/Cases.antt shows that all of them follow.
 use Prim.Native.Nat.{ℕ}
 use Prim.Native.String.{String}
@@ -93,7 +93,7 @@ byteRows =
     ("(exact (max 4 1 1 1) (min 1 0 0 1))"
     ∷ "(zoom stopped (levels 1) (floor 1 0 0 1) (ceiling 4) (kept 1))"
     ∷ "(zoommin stopped (levels 1) (low 0) (high 1 0 0 1) (kept 1))"
-    ∷ "(density 2777)"
+    ∷ "(density 2778)"
     ∷ "(fill safe)"
     ∷ []))
     ∷ row "the least met above 0, a level later than the greatest"
@@ -102,7 +102,7 @@ byteRows =
     ("(exact (max 12 0 2 1) (min 3 2 0 1))"
     ∷ "(zoom met (levels 2) (floor 12 0 2 1) (ceiling 15) (kept 2))"
     ∷ "(zoommin met (levels 3) (low 2) (high 3 2 0 1) (kept 1))"
-    ∷ "(density 8437)"
+    ∷ "(density 8438)"
     ∷ "(fill safe)"
     ∷ []))
     ∷ row "the least stopped, at one thousandth less"
@@ -111,7 +111,7 @@ byteRows =
     ("(exact (max 12 0 2 1) (min 3 2 0 1))"
     ∷ "(zoom met (levels 2) (floor 12 0 2 1) (ceiling 15) (kept 2))"
     ∷ "(zoommin stopped (levels 3) (low 2) (high 3 2 0 1) (kept 1))"
-    ∷ "(density 8437)"
+    ∷ "(density 8438)"
     ∷ "(fill safe)"
     ∷ []))
     ∷ row "four windows, each with its own count; floor and high are of an earlier level and have the areas of max and min"
@@ -132,6 +132,24 @@ byteRows =
     ∷ "(zoommin exact (levels 4) (low 9) (high 9 0 0 1) (kept 0))"
     ∷ "(density 10000)"
     ∷ "(fill undecided over 0 0)"
+    ∷ []))
+    ∷ row "312 and a half, rounded to the even neighbour below"
+    (prints "(job (size 8) (window 8) (cut 1) (gap 0) (bounds 0 10000) (zoom 0 6))\n(rect 0 0 2 1)\n(end)\n")
+    (printedLines
+    ("(exact (max 2 0 0 1) (min 2 0 0 1))"
+    ∷ "(zoom met (levels 1) (floor 2 0 0 1) (ceiling 2) (kept 0))"
+    ∷ "(zoommin exact (levels 5) (low 2) (high 2 0 0 1) (kept 0))"
+    ∷ "(density 312)"
+    ∷ "(fill safe)"
+    ∷ []))
+    ∷ row "937 and a half, rounded to the even neighbour above"
+    (prints "(job (size 8) (window 8) (cut 1) (gap 0) (bounds 0 10000) (zoom 0 6))\n(rect 0 0 3 2)\n(end)\n")
+    (printedLines
+    ("(exact (max 6 0 0 1) (min 6 0 0 1))"
+    ∷ "(zoom met (levels 1) (floor 6 0 0 1) (ceiling 6) (kept 0))"
+    ∷ "(zoommin exact (levels 5) (low 6) (high 6 0 0 1) (kept 0))"
+    ∷ "(density 938)"
+    ∷ "(fill safe)"
     ∷ []))
     ∷ row "broken under"
     (prints "(job (size 2) (window 1) (cut 1) (gap 0) (bounds 1 10000) (zoom 0 6))\n(fill 0 0 1)\n(end)\n")

@@ -1,12 +1,13 @@
 -- Demand 3: what the answer to an accepted job promises, whatever its shapes and numbers; what is promised of an extreme is promised of the
 -- greatest and of the least by one record. An answer that is an enum is spoken of by the paper's number and values. `Guarantee` in
 -- specs/Guarantee.antt makes it part of the unit's contracts.
-use Prim.Native.Nat.{ℕ, suc, _+_, _-_, _*_, _≤_, _<_}
+use Prim.Native.Nat.{ℕ, suc, _+_, _*_, _≤_, _<_}
 use mathlib.Core.Path.{_≡_}
 use mathlib.Core.Bool.{Bool}
 use mathlib.Core.List.{[], _∷_}
 use mathlib.Core.Logic.{_⊎_}
 use lib.Dec.{T}
+use Rattle.rounding.specs.Nearest.{distance, Rounds}
 use Rattle.geometry.specs.declared.Spot.{Spot}
 use Rattle.geometry.specs.declared.Sense.{Sense}
 use Rattle.geometry.specs.Extreme.{Bounded}
@@ -43,10 +44,6 @@ pub record RealWindow (st : Standing) (p : Spot) : Type 0 where
 -- no position with the same area has a smaller y, or the same y and a smaller x
 abbrev pub Earliest : Standing → Spot → Type 0
 Earliest st p = (x y : ℕ) → PositionOf st x y → areaAt st x y ≡ p .area → (p .y < y) ⊎ ((p .y ≡ y) × (p .x ≤ x))
-
--- |a − b|
-abbrev pub distance : ℕ → ℕ → ℕ
-distance a b = (a - b) + (b - a)
 
 -- a choice of unit squares is a placement of the job's fill
 abbrev pub Places : Standing → (ℕ → ℕ → Bool) → Type 0
@@ -125,6 +122,17 @@ pub record CountsPromise (st : Standing) (a : Answer) : Type 0 where
   pub floor : CountPromise st (a .greatest .last .named) (a .counts .floor)
   pub high : CountPromise st (a .least .last .named) (a .counts .high)
 
+-- the density d of a quick run for the greatest window, beside its area m by the exact run
+pub record DensityPromise (st : Standing) (q : Quick) (m d : ℕ) : Type 0 where
+  -- it is the middle of F and C in ten-thousandths of W × W, rounded to the nearest, an exact half to the even neighbour, and no other number is
+  pub middle : Rounds (10000 * (q .last .named .area + q .last .limit)) (2 * st .head .window * st .head .window) d
+  -- after "met" for accuracy E it is off the greatest density by E thousandths of that and half a ten-thousandth at most:
+  -- 2 × |10000 × m − d × W × W| ≤ 20 × E × m + W × W
+  pub met : endNumber (q .end) ≡ 0 →
+      2 * distance (10000 * m) (d * st .head .window * st .head .window) ≤ 20 * st .head .accuracy * m + st .head .window * st .head .window
+  -- after the exact search it is the greatest density itself, rounded
+  pub exact : endNumber (q .end) ≡ 2 → Rounds (10000 * m) (st .head .window * st .head .window) d
+
 -- the fill, whichever eligible unit squares it takes: after "safe" every position keeps both bounds, on the tile grid or off it; after
 -- "broken" the named window is a position and breaks the bound named; and there is at least one placement
 pub record FillPromise (st : Standing) (v : Verdict) : Type 0 where
@@ -134,9 +142,11 @@ pub record FillPromise (st : Standing) (v : Verdict) : Type 0 where
       KeepsAt st chosen b (i * tileSide (st .head)) (j * tileSide (st .head)) → ⊥
   pub placeable : (chosen : ℕ → ℕ → Bool) × Places st chosen
 
--- the answer to an accepted job: both extremes, the quick run of each beside it, the shapes under the windows that these name, and the fill
+-- the answer to an accepted job: both extremes, the quick run of each beside it, the shapes under the windows that these name, the density, and
+-- the fill
 pub record Promises (st : Standing) (a : Answer) : Type 0 where
   pub exact : (s : Sense) → ExactPromise s st (extremeIn s (a .exact))
   pub quick : (s : Sense) → QuickPromise s st (quickIn s a) (extremeIn s (a .exact) .area)
   pub counts : CountsPromise st a
+  pub density : DensityPromise st (a .greatest) (a .exact .greatest .area) (a .density)
   pub fill : FillPromise st (a .verdict)

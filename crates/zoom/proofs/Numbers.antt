@@ -20,5 +20,9 @@ ends-small Least v z = record { low = z .limit; high = z .named }
 pub scaled-small : (e low : ℕ) → e ≤ mostAccuracy → low ≤ largest → (1000 + 2 * e) * low ≤ 3000 * largest
 scaled-small e low h k = mul-le-mul {n₁ = 1000 + 2 * e} {n₂ = 3000} (omega arith) k
 
-pub area-of-window : (w : ℕ) → 1 ≤ w → w ≤ widest → (1 ≤ 2 * w * w) × (2 * w * w ≤ 2 * largest)
-area-of-window w h k = (omega (arith, mul-le-mul {n₁ = 1} {m₁ = 1} {n₂ = w} {m₂ = w} h h), omega (arith, mul-le-mul {n₁ = w} {m₁ = w} {n₂ = widest} {m₂ = widest} k k))
+-- twice the squares of a window
+pub some-squares : (w : ℕ) → 1 ≤ w → 1 ≤ 2 * w * w
+some-squares w h = omega (arith, mul-le-mul {n₁ = 1} {m₁ = 1} {n₂ = w} {m₂ = w} h h)
+
+pub squares-small : (w : ℕ) → w ≤ widest → 2 * w * w ≤ 2 * largest
+squares-small w h = omega (arith, mul-le-mul {n₁ = w} {m₁ = w} {n₂ = widest} {m₂ = widest} h h)

@@ -1,5 +1,5 @@
 -- Document 01, "Proved cases", rows A3, A4 and Z: the quick run for the greatest window; and rows for the least: job A's, whose line document
--- 02's request 1 states, and our own. The unit's proofs/Cases.antt shows that they follow.
+-- 02's request 1 states, and our own; and the density, with the two that request 4 states. The unit's proofs/Cases.antt shows that they follow.
 use Prim.Native.Nat.{ℕ}
 use mathlib.Core.List.{List, [], _∷_}
 use Rattle.geometry.specs.declared.Sense.the-variants.{Greatest, Least}
@@ -9,7 +9,7 @@ use Rattle.geometry.specs.Row.{Row, row}
 use Rattle.geometry.specs.JobA.{shapesA}
 use Rattle.zoom.specs.declared.Level.{Level}
 use Rattle.zoom.specs.declared.Quick.{Quick}
-use Rattle.zoom.specs.Run.{levelAt, endNumber, quickRun}
+use Rattle.zoom.specs.Run.{levelAt, endNumber, quickRun, density}
 
 -- F with its window, C, kept; of the least, high with its window, low, kept
 abbrev pub levelNumbers : Level → List ℕ
@@ -35,6 +35,17 @@ shapesBars =
 abbrev pub shapesCorner : List Rect
 shapesCorner = record { x1 = 0; y1 = 0; x2 = 2; y2 = 2 } ∷ []
 
+-- the window's side, F and C, and the density
+abbrev pub densityRows : List Row
+densityRows =
+    row "density, 312 and a half: down to the even neighbour" (density 8 2 2 ∷ []) (312 ∷ [])
+    ∷ row "density, 937 and a half: up to the even neighbour" (density 8 6 6 ∷ []) (938 ∷ [])
+    ∷ row "density, a half of two different ends, past 10000" (density 4 16 17 ∷ []) (10312 ∷ [])
+    ∷ row "density, 48 of 98 past the lower neighbour" (density 7 6 6 ∷ []) (1224 ∷ [])
+    ∷ row "density, 50 of 98 past the lower neighbour" (density 7 18 19 ∷ []) (3776 ∷ [])
+    ∷ row "density, nothing past the lower neighbour, which is odd" (density 4 1 1 ∷ []) (625 ∷ [])
+    ∷ []
+
 abbrev pub zoomRows : List Row
 zoomRows =
     row "A3" (levelNumbers (levelAt Greatest shapesA 8 4 0)) (1 ∷ 0 ∷ 0 ∷ 4 ∷ 3 ∷ [])
@@ -51,4 +62,4 @@ zoomRows =
     ∷ row "least, met at the last level allowed, least y first" (quickNumbers (quickRun Least shapesCorner 6 4 0 2)) (0 ∷ 2 ∷ 0 ∷ 2 ∷ 0 ∷ 0 ∷ 0 ∷ [])
     ∷ row "least, exact with a new window" (quickNumbers (quickRun Least shapesCorner 5 3 0 2)) (2 ∷ 2 ∷ 0 ∷ 2 ∷ 0 ∷ 0 ∷ 0 ∷ [])
     ∷ row "least, exact with an earlier window on a tie" (quickNumbers (quickRun Least shapesBars 8 4 0 6)) (2 ∷ 4 ∷ 4 ∷ 4 ∷ 0 ∷ 4 ∷ 0 ∷ [])
-    ∷ []
+    ∷ densityRows

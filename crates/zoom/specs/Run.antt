@@ -1,5 +1,5 @@
--- Document 01, "The quick run", and document 02, request 1, which asks the same of the least window. Floor F, ceiling C, low, high, kept, level
--- and end are their terms. Nothing is passed over here.
+-- Document 01, "The quick run", and document 02, request 1, which asks the same of the least window, and request 4, which rounds the density. Floor
+-- F, ceiling C, low, high, kept, level and end are their terms. Nothing is passed over here.
 -- A run is stated over the sense of the extreme. Of its last level the answer prints `named`, area and place, after floor (F) for the greatest
 -- and after high for the least, `limit` after ceiling (C) and after low, `kept` after kept, and `done` of the run after levels.
 use Prim.Native.Nat.{ℕ, zero, suc, _+_, _-_, _*_, _/_, _^_, _≤_, min}
@@ -7,6 +7,7 @@ use mathlib.Core.Bool.{Bool, true, false}
 use mathlib.Core.List.{List}
 use lib.Dec.{leb}
 use lib.Count.{trailingZeros}
+use Rattle.rounding.specs.Nearest.{rounded}
 use Rattle.geometry.specs.declared.Rect.{Rect}
 use Rattle.geometry.specs.declared.Spot.{Spot}
 use Rattle.geometry.specs.declared.Sense.{Sense}
@@ -123,6 +124,6 @@ runFrom s rs n w e v (suc left) j = afterLevel s e v j (levelAt s rs n w j) (run
 unfoldable pub quickRun : Sense → List Rect → (n w e v : ℕ) → Quick
 quickRun s rs n w e v = runFrom s rs n w e v (lastLevel w) 0
 
--- density in ten-thousandths: 10000 × (F + C) / (2 × w × w), rounded down
+-- density in ten-thousandths: 10000 × (F + C) / (2 × w × w), rounded to the nearest, an exact half to the even neighbour
 abbrev pub density : (w f c : ℕ) → ℕ
-density w f c = 10000 * (f + c) / (2 * w * w)
+density w f c = rounded (10000 * (f + c)) (2 * w * w)

@@ -125,10 +125,10 @@ pub fn quick_run(sense: Sense, rects: &[u64], order: &[usize], asked: Asked, m: 
     }
 }
 
-// The density of a bracket, in ten-thousandths.
+// The density of a bracket, in ten-thousandths, rounded.
 pub fn density(w: u64, f: u64, c: u64) -> u64
     requires { ⌜ Measurable w f c ⌝ }
     ensures { λ r. ⌜ r ≡ density w f c ⌝ }
 {
-    10000 * (f + c) / (2 * w * w)
+    rounding::rounded(10000 * (f + c), 2 * w * w)
 }

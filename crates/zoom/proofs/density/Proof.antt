@@ -1,15 +1,15 @@
 -- `zoom::density` meets its contract. Assumes nothing.
 use native.Mathlib.Omega.{arith}
 use borrow.Author.Needs.{needs}
-use Rattle.zoom.proofs.Numbers.{area-of-window}
+use Rattle.zoom.proofs.Numbers.{some-squares, squares-small}
 use Rattle.zoom.proofs.density.Statement.{statement}
 use Rattle.zoom.proofs.density.Tie as tie
 
-mul-result-3 : tie.Need-mul-result-3
-mul-result-3 c = omega (arith, area-of-window (c .args .w) (c .pre .some-window) (c .pre .window-small))
+mul-rounded-3 : tie.Need-mul-rounded-3
+mul-rounded-3 c = omega (arith, squares-small (c .args .w) (c .pre .window-small))
 
-div-result : tie.Need-div-result
-div-result c = omega (arith, area-of-window (c .args .w) (c .pre .some-window) (c .pre .window-small))
+rounded-requires : tie.Need-rounded-requires
+rounded-requires c κs = some-squares (c .args .w) (c .pre .some-window)
 
 pub density-spec : {M : Type 1} → statement M
-density-spec = tie.close (tie.spec (λ c. search needs) (λ c. search needs) (λ c. search needs) mul-result-3 div-result (λ c. search needs))
+density-spec = tie.close (tie.spec (λ c. search needs) (λ c. search needs) (λ c. search needs) mul-rounded-3 rounded-requires (λ c. search needs))
