@@ -3,41 +3,44 @@
 use comparison::{compare, on_large_stack};
 use reference::generate::{
     boundary_jobs, damaged_job, faulty_job, large_job, large_jobs, mixed_job, small_job, Random,
+    COMPARED_SEEDS,
 };
+use std::ops::Range;
 
 /// Compares one job for each of consecutive seeds.
-fn compare_seeds(first: u64, count: u64, make: fn(&mut Random) -> Vec<u8>) {
-    println!("seeds {first} to {}", first + count - 1);
+fn compare_seeds(seeds: Range<u64>, make: fn(&mut Random) -> Vec<u8>) {
+    println!("seeds {seeds:?}");
     on_large_stack(move || {
-        for seed in first..first + count {
+        for seed in seeds {
             compare(&make(&mut Random::new(seed)));
         }
     });
 }
 
+/// The second implementation's tests count what these jobs reach.
 #[test]
 fn valid_jobs() {
-    compare_seeds(1_000_000, 9_000, small_job);
+    compare_seeds(COMPARED_SEEDS, small_job);
 }
 
 #[test]
 fn faulty_jobs() {
-    compare_seeds(2_000_000, 5_000, faulty_job);
+    compare_seeds(2_000_000..2_005_000, faulty_job);
 }
 
 #[test]
 fn damaged_jobs() {
-    compare_seeds(3_000_000, 5_000, damaged_job);
+    compare_seeds(3_000_000..3_005_000, damaged_job);
 }
 
 #[test]
 fn mixed_jobs() {
-    compare_seeds(4_000_000, 3_000, mixed_job);
+    compare_seeds(4_000_000..4_003_000, mixed_job);
 }
 
 #[test]
 fn large_random_jobs() {
-    compare_seeds(5_000_000, 30, large_job);
+    compare_seeds(5_000_000..5_000_030, large_job);
 }
 
 #[test]

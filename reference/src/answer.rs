@@ -88,10 +88,26 @@ fn shown(
     }
 }
 
-/// The density midway between the ends of the greatest's bracket.
+/// The density midway between the ends of the greatest's bracket, in whole
+/// ten-thousandths.
 fn density(job: &Job, greatest: &Quick) -> u64 {
     let (low, high) = greatest.bracket();
-    10_000 * (low + high) / (2 * job.window * job.window)
+    rounded(10_000 * (low + high), 2 * job.window * job.window)
+}
+
+/// The whole number nearest to a quotient, and the even one where two are
+/// equally near. The denominator is positive, and both together fit 64 bits.
+pub fn rounded(numerator: u64, denominator: u64) -> u64 {
+    let lower = numerator / denominator;
+    let upper = lower + 1;
+    // A neighbour's distance from the quotient, times the denominator, and then
+    // whether it is odd: just one of the two is, so they never rank alike.
+    let rank = |whole: u64| (numerator.abs_diff(whole * denominator), whole % 2);
+    if rank(lower) < rank(upper) {
+        lower
+    } else {
+        upper
+    }
 }
 
 /// Answers a job into a lent buffer. Only an accepted job's answer is written,

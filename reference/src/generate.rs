@@ -20,6 +20,12 @@ pub use line::{bytes_of, Line};
 pub use random::Random;
 pub use small::{small_job, small_lines};
 
+use std::ops::Range;
+
+/// The seeds of the small jobs on which implementations are compared. Named
+/// here, so that a test can count what these very jobs reach.
+pub const COMPARED_SEEDS: Range<u64> = 1_000_000..1_009_000;
+
 /// Any small job: half of them valid, the others faulty or damaged.
 pub fn mixed_job(random: &mut Random) -> Vec<u8> {
     match random.below(4) {

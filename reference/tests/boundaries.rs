@@ -86,6 +86,22 @@ fn window_as_large_as_the_layout() {
     }
 }
 
+#[test]
+fn one_square_off_a_half_at_full_size() {
+    for (name, density) in [
+        ("density 312.5 less one square", 312),
+        ("density 312.5", 312),
+        ("density 312.5 and one square", 313),
+        ("density 937.5 less one square", 937),
+        ("density 937.5", 938),
+        ("density 937.5 and one square", 938),
+    ] {
+        let printed = printed(Method::Fast, &boundary_job(name));
+        let line = format!("(density {density})");
+        assert_eq!(printed.lines().nth(3), Some(line.as_str()), "{name}");
+    }
+}
+
 const SMALL: &[u8] = b"(job (size 8) (window 4) (cut 2) (gap 1) (bounds 0 5000) (zoom 0 6))\n\
                        (rect 3 3 5 5)\n(fill 0 0 2)\n(end)\n";
 

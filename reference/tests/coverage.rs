@@ -2,7 +2,9 @@
 
 use reference::answer::{answer, Method, Reply, ANSWER_ROOM};
 use reference::fast;
-use reference::generate::{boundary_jobs, job_with_fault, mixed_job, small_job, Random, SPOILABLE};
+use reference::generate::{
+    boundary_jobs, job_with_fault, mixed_job, small_job, Random, COMPARED_SEEDS, SPOILABLE,
+};
 use reference::job::Job;
 use reference::outcome::{End, Exact, Outcome, Quick, Shown, Side, Verdict};
 use reference::sense::Sense;
@@ -133,6 +135,21 @@ fn see_other_shapes(counts: &mut Counts, quick: &Quick<Shown>, exact: &Exact<Sho
     }
 }
 
+/// Where a density lies between its whole neighbours. Of halves it has as many
+/// as floor and ceiling together are ten-thousandths of a window: an odd number
+/// brings it halfway, and past that if there is a rest.
+fn density_name(floor_and_ceiling: u64, side: u64) -> &'static str {
+    let (parts, square) = (10_000 * floor_and_ceiling, side * side);
+    let (halves, has_rest) = (parts / square, !parts.is_multiple_of(square));
+    match (halves % 4, has_rest) {
+        (0 | 2, false) => "density whole",
+        (0 | 2, true) => "density nearest to the lower",
+        (1 | 3, true) => "density nearest to the upper",
+        (1, _) => "density halfway above an even one",
+        _ => "density halfway above an odd one",
+    }
+}
+
 fn see_outcome(counts: &mut Counts, job: &Job, outcome: &Outcome) {
     let Outcome {
         exact,
@@ -152,6 +169,8 @@ fn see_outcome(counts: &mut Counts, job: &Job, outcome: &Outcome) {
     counts.see_if(greatest.levels > least.levels, "zoom does more levels");
     counts.see_if(least.levels > greatest.levels, "zoommin does more levels");
     counts.see(verdict_name(outcome.verdict));
+    let floor_and_ceiling = greatest.named.window.area + greatest.limit;
+    counts.see(density_name(floor_and_ceiling, job.window));
     counts.see_if(outcome.density > 10_000, "density above 10000");
     counts.see_if(job.size == job.window, "one position");
     counts.see_if(job.window.is_multiple_of(32), "window halved no further");
@@ -219,12 +238,13 @@ fn wanted_of_shapes() -> impl Iterator<Item = String> {
     named.chain(Sense::BOTH.into_iter().flat_map(of_a_line))
 }
 
+/// The very jobs on which implementations are compared.
 #[test]
 fn small_jobs_reach_every_answer() {
     let mut counts = Counts::default();
-    let mut random = Random::new(1);
-    for _ in 0..10_000 {
-        let job = fast::read(&small_job(&mut random)).expect("small jobs are valid");
+    for seed in COMPARED_SEEDS {
+        let file = small_job(&mut Random::new(seed));
+        let job = fast::read(&file).expect("small jobs are valid");
         see_outcome(&mut counts, &job, &Method::Fast.outcome(&job));
     }
     let others = [
@@ -248,6 +268,14 @@ fn small_jobs_reach_every_answer() {
         .chain(wanted_of_shapes())
         .chain(others.map(String::from));
     counts.require(10, wanted);
+    let densities = [
+        "density whole",
+        "density nearest to the lower",
+        "density nearest to the upper",
+        "density halfway above an even one",
+        "density halfway above an odd one",
+    ];
+    counts.require(150, densities.map(String::from));
 }
 
 fn reply_name(job: &[u8], buffer: &mut [u8]) -> String {

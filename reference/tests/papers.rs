@@ -3,6 +3,7 @@
 mod common;
 
 use common::printed_by_both;
+use reference::answer::rounded;
 use reference::outcome::{End, Exact, Failure, Quick, Side, Verdict, Window};
 use reference::sense::Sense;
 use reference::{brute, fast};
@@ -487,11 +488,68 @@ fn shapes_are_those_of_the_window_named() {
     );
 }
 
+/// Checks a density, and the floor and ceiling that it comes from.
+fn assert_density(file: &str, floor_and_ceiling: (u64, u64), density: u64) {
+    assert_eq!(greatest(file).bracket(), floor_and_ceiling, "{file}");
+    let line = format!("(density {density})");
+    let printed = printed_by_both(file.as_bytes());
+    assert_eq!(printed.lines().nth(3), Some(line.as_str()), "{file}");
+}
+
+#[test]
+fn a_half_goes_to_the_even_neighbour() {
+    // The rows of request 4: 312.5 and 937.5.
+    assert_density(&drawn(8, 8, "0 6", &["0 0 2 1"]), (2, 2), 312);
+    assert_density(&drawn(8, 8, "0 6", &["0 0 3 2"]), (6, 6), 938);
+    // Stopped with two ends that differ: 1562.5 and 937.5.
+    assert_density(&job_a("0 5000", "0 1"), (1, 4), 1562);
+    assert_density(&drawn(8, 4, "0 1", &["3 0 5 1"]), (1, 2), 938);
+}
+
+#[test]
+fn the_smallest_halves() {
+    // Under a window of 100 the density is half of floor and ceiling together.
+    // From the one start only the bloated window has what lies beyond 100.
+    for (rect, floor_and_ceiling, density) in [
+        ("124 124 125 125", (0, 1), 0),
+        ("99 0 101 1", (1, 2), 2),
+        ("98 0 101 1", (2, 3), 2),
+        ("97 0 101 1", (3, 4), 4),
+    ] {
+        let file = drawn(125, 100, "0 1", &[rect]).replace("cut 100", "cut 4");
+        assert_density(&file, floor_and_ceiling, density);
+    }
+}
+
+#[test]
+fn what_is_no_half_goes_to_the_nearest() {
+    // Under a window of 3 these are 4444 and 8 parts of 18, and 555 and 10.
+    assert_density(&drawn(3, 3, "0 6", &["0 0 2 2"]), (4, 4), 4444);
+    assert_density(&drawn(7, 3, "0 1", &["6 6 7 7"]), (0, 1), 556);
+}
+
 #[test]
 fn density_is_not_capped() {
-    let file = "(job (size 8) (window 4) (cut 2) (gap 1) (bounds 0 10000) (zoom 0 1))\n\
-                (rect 0 0 8 8)\n(end)\n";
-    assert!(printed_by_both(file.as_bytes()).contains("(density 25000)"));
+    assert_density(&drawn(8, 4, "0 1", &["0 0 8 8"]), (16, 64), 25_000);
+    // 12812.5 and 15937.5.
+    assert_density(&drawn(8, 4, "0 1", &["0 0 5 5"]), (16, 25), 12_812);
+    assert_density(&drawn(8, 4, "0 1", &["0 0 7 5"]), (16, 35), 15_938);
+}
+
+/// Of all whole numbers just one is within half of the quotient, and even if it
+/// is at a half: the rounded one.
+#[test]
+fn rounding_has_one_right_answer() {
+    for denominator in 1..=48_u64 {
+        for numerator in 0..=480_u64 {
+            let is_right = |whole: &u64| {
+                let distance = 2 * numerator.abs_diff(whole * denominator);
+                distance < denominator || (distance == denominator && whole.is_multiple_of(2))
+            };
+            let right: Vec<u64> = (0..=numerator).filter(is_right).collect();
+            assert_eq!(right, [rounded(numerator, denominator)]);
+        }
+    }
 }
 
 #[test]

@@ -19,6 +19,7 @@ pub fn boundary_jobs() -> Vec<BoundaryJob> {
         head_limits(),
         rectangle_limits(),
         fill_limits(),
+        halves_at_full_size(),
         file_ends(),
     ]
     .into_iter()
@@ -227,6 +228,33 @@ fn fill_limits() -> Vec<BoundaryJob> {
         accepted("the greatest amount", largest(4_294_836_225)),
         refused("beyond it", largest(4_294_836_226), 3, 2),
     ]
+}
+
+/// Densities that are exact halves under a window of full size, 312.5 for a 32nd
+/// of it and 937.5 for three; each also with the last row of its metal one square
+/// short, and one square long.
+fn halves_at_full_size() -> Vec<BoundaryJob> {
+    let eighth = 8191;
+    let around = |density: &str, width: u64, height: u64| {
+        let last = height - 1;
+        [
+            (" less one square", width - 1),
+            ("", width),
+            (" and one square", width + 1),
+        ]
+        .map(|(difference, last_width)| {
+            let lines = [
+                Line::Head([8 * eighth, 8 * eighth, 1, 0, 0, 10_000, 0, 6]),
+                Line::Rect([0, 0, width, last]),
+                Line::Rect([0, last, last_width, height]),
+                Line::End,
+            ];
+            accepted(format!("density {density}{difference}"), bytes_of(&lines))
+        })
+    };
+    let down = around("312.5", 2 * eighth, eighth);
+    let up = around("937.5", 3 * eighth, 2 * eighth);
+    down.into_iter().chain(up).collect()
 }
 
 fn file_ends() -> Vec<BoundaryJob> {
