@@ -54,21 +54,23 @@ fn found(pointer: *mut c_void) -> Result<*mut c_void, String> {
     Ok(pointer)
 }
 
-/// The lines of a printed text by the word that each begins with: no text has two
-/// lines with one word.
-fn lines_by_word(printed: &str) -> BTreeMap<&str, &str> {
-    let word = |line: &'_ str| line.find(' ').unwrap_or(line.len());
-    printed.lines().map(|line| (&line[..word(line)], line)).collect()
+/// The word that a line begins with.
+pub fn word_of(line: &str) -> &str {
+    line.split(' ').next().unwrap_or(line)
 }
 
 /// The lines that are not the same in what two states print for a job, each as
-/// it is now and as it was before; empty where there is none with its word.
+/// it is now and as it was before; empty where none begins with its word. No
+/// text has two lines that begin with one word.
 pub fn changed_lines<'a>(now: &'a str, before: &'a str) -> Vec<[&'a str; 2]> {
-    let texts = [now, before].map(lines_by_word);
-    let mut words: Vec<&str> = texts.iter().flat_map(|lines| lines.keys().copied()).collect();
-    words.sort_unstable();
-    words.dedup();
-    let line_of = |word: &&str| texts.each_ref().map(|lines| lines.get(word).copied().unwrap_or(""));
-    let pairs = words.iter().map(line_of);
-    pairs.filter(|[now, before]| now != before).collect()
+    let mut pairs: BTreeMap<&str, [&str; 2]> = BTreeMap::new();
+    for (place, text) in [now, before].into_iter().enumerate() {
+        for line in text.lines() {
+            pairs.entry(word_of(line)).or_default()[place] = line;
+        }
+    }
+    pairs
+        .into_values()
+        .filter(|[now, before]| now != before)
+        .collect()
 }

@@ -1,10 +1,9 @@
-//! What the answers of an earlier state of the library and of the linked one have
-//! in common: many jobs through both, and the number of lines that differ, by the
-//! word that they begin with. The argument names the earlier state, as for the
-//! benchmark.
+//! What changed since an earlier state of the library: many jobs through it and
+//! through the linked one, and the number of lines that differ, by the word that
+//! they begin with. The argument names the earlier state, as for the benchmark.
 
-use comparison::earlier::{self, changed_lines};
-use comparison::{on_large_stack, Library, LINKED};
+use comparison::earlier::{self, changed_lines, word_of};
+use comparison::{on_large_stack, LINKED};
 use reference::generate::{
     boundary_jobs, damaged_job, faulty_job, large_job, large_jobs, small_job, Random,
 };
@@ -23,31 +22,33 @@ const KINDS: [Kind; 4] = [
 
 /// The jobs at the limits, the heaviest ones, and random ones of every kind.
 fn jobs() -> impl Iterator<Item = Vec<u8>> {
-    let random = KINDS.into_iter().flat_map(|(count, make)| {
-        (0..count).map(move |seed| make(&mut Random::new(seed)))
-    });
+    let random = KINDS
+        .into_iter()
+        .flat_map(|(count, make)| (0..count).map(move |seed| make(&mut Random::new(seed))));
     let limits = boundary_jobs().into_iter().map(|case| case.job);
     let heaviest = large_jobs().into_iter().map(|large| large.job);
     limits.chain(heaviest).chain(random)
 }
 
-/// Counts jobs, those answered alike, and changed lines by their word.
-fn count_changes(before: &Library) -> BTreeMap<String, u64> {
-    let mut counts = BTreeMap::new();
-    let mut see = |what: &str| *counts.entry(what.to_string()).or_default() += 1;
-    for job in jobs() {
-        see("jobs");
-        let (now, before) = (LINKED.printed(&job), before.printed(&job));
-        let changed = changed_lines(&now, &before);
-        if changed.is_empty() {
-            see("answered alike");
-        }
+/// How many jobs were answered, how many of them alike, and how many lines
+/// changed that begin with a word.
+#[derive(Default)]
+struct Changes {
+    jobs: u64,
+    alike: u64,
+    lines: BTreeMap<String, u64>,
+}
+
+impl Changes {
+    fn see(&mut self, now: &str, before: &str) {
+        let changed = changed_lines(now, before);
+        self.jobs += 1;
+        self.alike += u64::from(changed.is_empty());
         for [now, before] in changed {
             let line = if now.is_empty() { before } else { now };
-            see(line.split(' ').next().unwrap_or(line));
+            *self.lines.entry(word_of(line).to_string()).or_default() += 1;
         }
     }
-    counts
 }
 
 fn main() -> ExitCode {
@@ -60,8 +61,13 @@ fn main() -> ExitCode {
         }
     };
     on_large_stack(move || {
-        for (what, count) in count_changes(&before) {
-            println!("{what}: {count}");
+        let mut changes = Changes::default();
+        for job in jobs() {
+            changes.see(&LINKED.printed(&job), &before.printed(&job));
+        }
+        println!("{} jobs, {} answered alike", changes.jobs, changes.alike);
+        for (word, count) in changes.lines {
+            println!("{count} lines changed that begin with {word}");
         }
     });
     ExitCode::SUCCESS
