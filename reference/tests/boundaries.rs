@@ -87,7 +87,7 @@ fn window_as_large_as_the_layout() {
 }
 
 #[test]
-fn one_square_off_a_half_at_full_size() {
+fn one_square_off_a_half_of_a_wide_window() {
     for (name, density) in [
         ("density 312.5 less one square", 312),
         ("density 312.5", 312),

@@ -135,9 +135,8 @@ fn see_other_shapes(counts: &mut Counts, quick: &Quick<Shown>, exact: &Exact<Sho
     }
 }
 
-/// Where a density lies between its whole neighbours. Of halves it has as many
-/// as floor and ceiling together are ten-thousandths of a window: an odd number
-/// brings it halfway, and past that if there is a rest.
+/// Where a density lies between its whole neighbours. Twice the density, rounded
+/// down, is odd from the half on; without a rest the density is whole or a half.
 fn density_name(floor_and_ceiling: u64, side: u64) -> &'static str {
     let (parts, square) = (10_000 * floor_and_ceiling, side * side);
     let (halves, has_rest) = (parts / square, !parts.is_multiple_of(square));

@@ -19,19 +19,19 @@ beside a b r s some p q = go (le-or-lt s (suc r))
     go (inl h) = h
     go (inr h) = absurd (omega (arith, mul-le-mul-right b h, p .near, q .near))
 
--- nor one apart: each would be half away, so that both were even
+-- nor one apart: each would be half away, so both would be even
 next : (a b r : ℕ) → Nearest a b r → Nearest a b (suc r) → ⊥
 next a b r p q = omega (arith, p .half-even (omega (arith, p .near, q .near)), q .half-even (omega (arith, p .near, q .near)))
 
-not-below : (a b r s : ℕ) → 1 ≤ b → Nearest a b r → Nearest a b s → s ≤ r
-not-below a b r s some p q = go (le-or-lt s r)
+not-above : (a b r s : ℕ) → 1 ≤ b → Nearest a b r → Nearest a b s → s ≤ r
+not-above a b r s some p q = go (le-or-lt s r)
   where
     go : (s ≤ r) ⊎ (r < s) → s ≤ r
     go (inl h) = h
     go (inr h) = let e : s ≡ suc r = omega (arith, h, beside a b r s some p q) in absurd (next a b r p (rw e at q))
 
 pub one-nearest : (a b r s : ℕ) → 1 ≤ b → Nearest a b r → Nearest a b s → r ≡ s
-one-nearest a b r s some p q = omega (arith, not-below a b r s some p q, not-below a b s r some q p)
+one-nearest a b r s some p q = omega (arith, not-above a b r s some p q, not-above a b s r some q p)
 
 pub nearest-rounds : (a b r : ℕ) → 1 ≤ b → Nearest a b r → Rounds a b r
 nearest-rounds a b r some p = record { nearest = p; only = λ s q. one-nearest a b s r some q p }
@@ -57,12 +57,12 @@ rounded-nearest a b some = go (compare (2 * (a % b)) b) refl
     small : a % b < b
     small = mod-lt a some
 
-    at-half : 2 * (a % b) ≡ b → (a / b % 2 ≤ 0) ⊎ (0 < a / b % 2) → Nearest a b (a / b + a / b % 2)
+    at-half : 2 * (a % b) ≡ b → (a / b % 2 ≤ 0) ⊎ (0 < a / b % 2) → Nearest a b (neighbour Ordering·eq (a / b))
     at-half e (inl even) =
-        let z : a / b + a / b % 2 ≡ a / b = omega (arith, even) in
+        let z : neighbour Ordering·eq (a / b) ≡ a / b = omega (arith, even) in
         rw z (lower-nearest a b (omega (arith, e)) (λ k. omega (arith, even)))
     at-half e (inr odd) =
-        let z : a / b + a / b % 2 ≡ a / b + 1 = omega (arith, odd) in
+        let z : neighbour Ordering·eq (a / b) ≡ a / b + 1 = omega (arith, odd) in
         rw z (upper-nearest a b small (omega (arith, e)) (λ k. omega (arith, odd)))
 
     go : (o : Ordering) → compare (2 * (a % b)) b ≡ o → Nearest a b (neighbour o (a / b))

@@ -23,6 +23,7 @@ neighbour Ordering·lt q = q
 neighbour Ordering·eq q = q + q % 2
 neighbour Ordering·gt q = q + 1
 
--- a / b rounded, for b from 1 on: twice the remainder against b tells on which side of the half it lies
+-- a / b rounded, for b from 1 on: twice the remainder against b tells on which side of the half it lies. It is the number that `Rounds` speaks of:
+-- `rounds` in proofs/Rounding.antt
 unfoldable pub rounded : (a b : ℕ) → ℕ
 rounded a b = neighbour (compare (2 * (a % b)) b) (a / b)

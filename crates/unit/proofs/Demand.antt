@@ -21,7 +21,7 @@ use Rattle.zoom.specs.declared.End.{End}
 use Rattle.zoom.specs.declared.End.the-variants.{Met, Stopped, Exact}
 use Rattle.zoom.specs.declared.Level.{Level}
 use Rattle.zoom.specs.declared.Quick.{Quick}
-use Rattle.zoom.specs.Run.{lastLevel, levelStep, lowEnd, highEnd, endNumber}
+use Rattle.zoom.specs.Run.{lastLevel, levelStep, lowEnd, highEnd, Brackets, endNumber}
 use Rattle.zoom.specs.Grid.{AtStart}
 use Rattle.zoom.proofs.Numbers.{some-squares}
 use Rattle.zoom.proofs.Steps.{step-positive}
@@ -42,7 +42,7 @@ use Rattle.jobfile.specs.declared.Head.{Head}
 use Rattle.jobfile.specs.Forms.{tileSide, tilesAcross, planOf}
 use Rattle.jobfile.specs.Faults.{Standing}
 use Rattle.unit.specs.Answering.{quickOf, answerOf, quickIn}
-use Rattle.unit.specs.Promise.{shapesAt, RealWindow, StartOf, EndsWith, ExactPromise, levelIn, BracketPromise, LevelPromise, QuickPromise, FillPromise, CountPromise, CountsPromise, DensityPromise, Promises}
+use Rattle.unit.specs.Promise.{shapesAt, RealWindow, StartOf, EndsWith, ExactPromise, levelIn, BracketPromise, LevelPromise, QuickPromise, FillPromise, CountPromise, CountsPromise, DensityBut, DensityPromise, Promises}
 
 -- what an accepted head and its amounts say: tiles fit the window and the layout, and no amount exceeds its tile's fillable area
 pub record Runs (st : Standing) : Type 0 where
@@ -208,31 +208,51 @@ count-kept st p r =
 
 -- ---- the density
 
--- the middle of two ends that are off m by e thousandths of it
-met-density : (e m low high w d : ℕ) → 1000 * distance (low + high) (2 * m) ≤ 2 * e * m → 2 * distance (10000 * (low + high)) (d * (2 * w * w)) ≤ 2 * w * w →
-    2 * distance (10000 * m) (d * w * w) ≤ 20 * e * m + w * w
-met-density e m low high w d h k = omega (arith, h, k)
+-- the rounded middle of two ends, by how far their sum is off 2m
+middle-off : (m low high w d off : ℕ) → 1000 * distance (low + high) (2 * m) ≤ off → 2 * distance (10000 * (low + high)) (d * (2 * w * w)) ≤ 2 * w * w →
+    2 * distance (10000 * m) (d * w * w) ≤ 10 * off + w * w
+middle-off m low high w d off h k = omega (arith, h, k)
 
-density-kept : (st : Standing) → Runs st → DensityPromise st (quickOf Greatest st) (extreme Greatest (st .shapes) (st .head .size) (st .head .window) .area) (answerOf st .density)
+density-kept : (st : Standing) → Runs st →
+    DensityPromise st (quickOf Greatest st) (extreme Greatest (st .shapes) (st .head .size) (st .head .window) .area) (answerOf st .density)
 unfolding answerOf
 density-kept st r =
     record {
       middle = middle;
-      met = λ e. met-density (st .head .accuracy) _ _ _ w d (q .met e) (middle .nearest .near);
-      exact = λ e. nearest-rounds _ _ d (omega (arith, some-squares w (r .some-window))) (nearest-reduced (omega (arith, q .exact-ends e .0, q .exact-ends e .1)) (omega arith) (middle .nearest));
+      near = omega (arith, off (1000 * (high - low)) (omega (arith, ends .low, ends .high)));
+      met = λ e. omega (arith, off (2 * st .head .accuracy * m) (q .met e));
+      equal-ends = λ e. nearest-rounds _ _ d (omega (arith, some)) (nearest-reduced (omega (arith, e, ends .low, ends .high)) (omega arith) (middle .nearest));
     }
   where
     w : ℕ
     w = st .head .window
 
+    m : ℕ
+    m = extreme Greatest (st .shapes) (st .head .size) w .area
+
+    low : ℕ
+    low = quickOf Greatest st .last .named .area
+
+    high : ℕ
+    high = quickOf Greatest st .last .limit
+
     d : ℕ
     d = answerOf st .density
 
-    q : QuickPromise Greatest st (quickOf Greatest st) (extreme Greatest (st .shapes) (st .head .size) (st .head .window) .area)
+    some : 1 ≤ 2 * w * w
+    some = some-squares w (r .some-window)
+
+    q : QuickPromise Greatest st (quickOf Greatest st) m
     q = quick-kept Greatest st r
 
-    middle : Rounds (10000 * (quickOf Greatest st .last .named .area + quickOf Greatest st .last .limit)) (2 * w * w) d
-    middle = rounds _ _ (some-squares w (r .some-window))
+    ends : Brackets Greatest (quickOf Greatest st .last) m
+    ends = q .bracket .ends
+
+    middle : Rounds (10000 * (low + high)) (2 * w * w) d
+    middle = rounds _ _ some
+
+    off : (k : ℕ) → 1000 * distance (low + high) (2 * m) ≤ k → DensityBut st m d (10 * k)
+    off k h = middle-off m low high w d k h (middle .nearest .near)
 
 -- ---- the fill
 

@@ -1,5 +1,5 @@
--- The cases: document 01's rows A1 to Z and those of document 02's requests and our own, for the least window, the shapes under a box and the density, each stated beside its definitions, and
--- files by their bytes with what is printed. proofs/Cases.antt shows that all of them follow.
+-- The cases: document 01's rows A1 to Z, those of document 02's requests and our own, for the least window, the shapes under a box and the density,
+-- each stated beside its definitions, and files by their bytes with what is printed. proofs/Cases.antt shows that all of them follow.
 use Prim.Native.Nat.{ℕ}
 use Prim.Native.String.{String}
 use mathlib.Core.List.{List, [], _∷_, _++_}

@@ -1,7 +1,7 @@
 -- Demand 3: what the answer to an accepted job promises, whatever its shapes and numbers; what is promised of an extreme is promised of the
 -- greatest and of the least by one record. An answer that is an enum is spoken of by the paper's number and values. `Guarantee` in
 -- specs/Guarantee.antt makes it part of the unit's contracts.
-use Prim.Native.Nat.{ℕ, suc, _+_, _*_, _≤_, _<_}
+use Prim.Native.Nat.{ℕ, suc, _+_, _-_, _*_, _≤_, _<_}
 use mathlib.Core.Path.{_≡_}
 use mathlib.Core.Bool.{Bool}
 use mathlib.Core.List.{[], _∷_}
@@ -122,16 +122,19 @@ pub record CountsPromise (st : Standing) (a : Answer) : Type 0 where
   pub floor : CountPromise st (a .greatest .last .named) (a .counts .floor)
   pub high : CountPromise st (a .least .last .named) (a .counts .high)
 
--- the density d of a quick run for the greatest window, beside its area m by the exact run
+-- d is the density of the area m but for k, and for what rounding adds, half a ten-thousandth: 2 × |10000 × m − d × W × W| ≤ k + W × W
+abbrev pub DensityBut : Standing → (m d k : ℕ) → Type 0
+DensityBut st m d k = 2 * distance (10000 * m) (d * st .head .window * st .head .window) ≤ k + st .head .window * st .head .window
+
+-- the density d of a quick run for the greatest window, beside the exact run's maximum m
 pub record DensityPromise (st : Standing) (q : Quick) (m d : ℕ) : Type 0 where
   -- it is the middle of F and C in ten-thousandths of W × W, rounded to the nearest, an exact half to the even neighbour, and no other number is
   pub middle : Rounds (10000 * (q .last .named .area + q .last .limit)) (2 * st .head .window * st .head .window) d
-  -- after "met" for accuracy E it is off the greatest density by E thousandths of that and half a ten-thousandth at most:
-  -- 2 × |10000 × m − d × W × W| ≤ 20 × E × m + W × W
-  pub met : endNumber (q .end) ≡ 0 →
-      2 * distance (10000 * m) (d * st .head .window * st .head .window) ≤ 20 * st .head .accuracy * m + st .head .window * st .head .window
-  -- after the exact search it is the greatest density itself, rounded
-  pub exact : endNumber (q .end) ≡ 2 → Rounds (10000 * m) (st .head .window * st .head .window) d
+  -- however the run ended, it is the greatest density but for half of C − F; after "met" for accuracy E, but for E thousandths of that density
+  pub near : DensityBut st m d (10000 * (q .last .limit - q .last .named .area))
+  pub met : endNumber (q .end) ≡ 0 → DensityBut st m d (20 * st .head .accuracy * m)
+  -- where F is C, so after the exact search and after "met" for accuracy 0, it is the greatest density itself, rounded
+  pub equal-ends : q .last .named .area ≡ q .last .limit → Rounds (10000 * m) (st .head .window * st .head .window) d
 
 -- the fill, whichever eligible unit squares it takes: after "safe" every position keeps both bounds, on the tile grid or off it; after
 -- "broken" the named window is a position and breaks the bound named; and there is at least one placement

@@ -41,8 +41,9 @@ densityRows =
     row "density, 312 and a half: down to the even neighbour" (density 8 2 2 ∷ []) (312 ∷ [])
     ∷ row "density, 937 and a half: up to the even neighbour" (density 8 6 6 ∷ []) (938 ∷ [])
     ∷ row "density, a half of two different ends, past 10000" (density 4 16 17 ∷ []) (10312 ∷ [])
-    ∷ row "density, 48 of 98 past the lower neighbour" (density 7 6 6 ∷ []) (1224 ∷ [])
-    ∷ row "density, 50 of 98 past the lower neighbour" (density 7 18 19 ∷ []) (3776 ∷ [])
+    ∷ row "density, 46 of 98 past the lower neighbour, which is odd" (density 7 18 18 ∷ []) (3673 ∷ [])
+    ∷ row "density, 52 of 98 past the lower neighbour, which is even" (density 7 4 9 ∷ []) (1327 ∷ [])
+    ∷ row "density, 12 of 18 past the lower neighbour, past 10000" (density 3 9 12 ∷ []) (11667 ∷ [])
     ∷ row "density, nothing past the lower neighbour, which is odd" (density 4 1 1 ∷ []) (625 ∷ [])
     ∷ []
 

@@ -1,5 +1,5 @@
--- Document 01, "The quick run", and document 02, request 1, which asks the same of the least window, and request 4, which rounds the density. Floor
--- F, ceiling C, low, high, kept, level and end are their terms. Nothing is passed over here.
+-- Document 01, "The quick run", and document 02, requests 1 (the same of the least window) and 4 (how the density is rounded). Floor F, ceiling C,
+-- low, high, kept, level and end are their terms. Nothing is passed over here.
 -- A run is stated over the sense of the extreme. Of its last level the answer prints `named`, area and place, after floor (F) for the greatest
 -- and after high for the least, `limit` after ceiling (C) and after low, `kept` after kept, and `done` of the run after levels.
 use Prim.Native.Nat.{ℕ, zero, suc, _+_, _-_, _*_, _/_, _^_, _≤_, min}

@@ -19,7 +19,7 @@ pub fn boundary_jobs() -> Vec<BoundaryJob> {
         head_limits(),
         rectangle_limits(),
         fill_limits(),
-        halves_at_full_size(),
+        halves_of_a_wide_window(),
         file_ends(),
     ]
     .into_iter()
@@ -230,10 +230,10 @@ fn fill_limits() -> Vec<BoundaryJob> {
     ]
 }
 
-/// Densities that are exact halves under a window of full size, 312.5 for a 32nd
-/// of it and 937.5 for three; each also with the last row of its metal one square
-/// short, and one square long.
-fn halves_at_full_size() -> Vec<BoundaryJob> {
+/// Densities that are exact halves under the widest window whose side is a
+/// multiple of 8: 312.5 where a 32nd of it is covered and 937.5 where three are;
+/// each also with the last row of its metal one square short, and one square long.
+fn halves_of_a_wide_window() -> Vec<BoundaryJob> {
     let eighth = 8191;
     let around = |density: &str, width: u64, height: u64| {
         let last = height - 1;
