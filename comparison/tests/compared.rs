@@ -74,7 +74,8 @@ fn sample_jobs() {
         ("safe", "(fill safe)"),
         ("broken", "(fill broken over 3 0)"),
         ("undecided", "(fill undecided over 2 1)"),
-        ("half", "(density 312)"),
+        ("safe", "(density 4062)"),
+        ("half", "(density 938)"),
         ("refused", "(refused 11 8)"),
     ];
     on_large_stack(move || {

@@ -1,5 +1,5 @@
 -- Document 02, request 4: a quotient rounded to the nearest whole number, an exact half to the even neighbour, in whole numbers. A buyer may go by
--- `Rounds` and need not read how the number is formed.
+-- `Rounds` and need not read how the number is formed: `Rounds` is promised of the printed density, `DensityPromise` in unit/specs/Promise.antt.
 use Prim.Native.Nat.{ℕ, _+_, _-_, _*_, _/_, _%_, _≤_, compare, Ordering, Ordering·lt, Ordering·eq, Ordering·gt}
 use mathlib.Core.Path.{_≡_}
 
@@ -7,7 +7,7 @@ use mathlib.Core.Path.{_≡_}
 abbrev pub distance : ℕ → ℕ → ℕ
 distance a b = (a - b) + (b - a)
 
--- r is within one half of a / b, 2 × |a − r × b| ≤ b, and even where it is exactly one half away
+-- r is within one half of a / b, 2 × |a − r × b| ≤ b, and an even number where it is exactly one half away
 pub record Nearest (a b r : ℕ) : Type 0 where
   pub near : 2 * distance a (r * b) ≤ b
   pub half-even : 2 * distance a (r * b) ≡ b → r % 2 ≡ 0

@@ -42,7 +42,7 @@ use Rattle.jobfile.specs.declared.Head.{Head}
 use Rattle.jobfile.specs.Forms.{tileSide, tilesAcross, planOf}
 use Rattle.jobfile.specs.Faults.{Standing}
 use Rattle.unit.specs.Answering.{quickOf, answerOf, quickIn}
-use Rattle.unit.specs.Promise.{shapesAt, RealWindow, StartOf, EndsWith, ExactPromise, levelIn, BracketPromise, LevelPromise, QuickPromise, FillPromise, CountPromise, CountsPromise, DensityBut, DensityPromise, Promises}
+use Rattle.unit.specs.Promise.{shapesAt, RealWindow, StartOf, EndsWith, ExactPromise, levelIn, BracketPromise, LevelPromise, QuickPromise, FillPromise, CountPromise, CountsPromise, DensityOff, DensityPromise, Promises}
 
 -- what an accepted head and its amounts say: tiles fit the window and the layout, and no amount exceeds its tile's fillable area
 pub record Runs (st : Standing) : Type 0 where
@@ -251,7 +251,7 @@ density-kept st r =
     middle : Rounds (10000 * (low + high)) (2 * w * w) d
     middle = rounds _ _ some
 
-    off : (k : ℕ) → 1000 * distance (low + high) (2 * m) ≤ k → DensityBut st m d (10 * k)
+    off : (k : ℕ) → 1000 * distance (low + high) (2 * m) ≤ k → DensityOff st m d (10 * k)
     off k h = middle-off m low high w d k h (middle .nearest .near)
 
 -- ---- the fill

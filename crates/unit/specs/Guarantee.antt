@@ -2,9 +2,9 @@
 --
 -- Determined by the definitions, but nothing more is promised of it: "undecided" says neither that the fill is safe nor that some placement
 -- breaks a bound, and the start that it names need not be the worst, nor need the one that "broken" names; kept counts starts and not windows,
--- and may be positive after "met"; after "stopped", or after "met" with a large accuracy, the ends of a bracket may be far apart; where they differ,
--- density, the middle of the greatest's, need not be that of any window and may pass 10000. Of a refused file there is its first fault and a buffer
--- as it was. Time, stack and what the program reads and writes stand in no contract.
+-- and may be positive after "met"; after "stopped", or after "met" with a large accuracy, the ends of a bracket may be far apart; where those
+-- of the greatest differ, density, their middle, need not be that of any window and may pass 10000 (how far it may be off is promised). Of a refused
+-- file there is its first fault and a buffer as it was. Time, stack and what the program reads and writes stand in no contract.
 use Prim.Native.Nat.{ℕ, _≤_, _<_}
 use mathlib.Core.Path.{_≡_}
 use mathlib.Core.List.{List}

@@ -122,17 +122,19 @@ pub record CountsPromise (st : Standing) (a : Answer) : Type 0 where
   pub floor : CountPromise st (a .greatest .last .named) (a .counts .floor)
   pub high : CountPromise st (a .least .last .named) (a .counts .high)
 
--- d is the density of the area m but for k, and for what rounding adds, half a ten-thousandth: 2 × |10000 × m − d × W × W| ≤ k + W × W
-abbrev pub DensityBut : Standing → (m d k : ℕ) → Type 0
-DensityBut st m d k = 2 * distance (10000 * m) (d * st .head .window * st .head .window) ≤ k + st .head .window * st .head .window
+-- d, in ten-thousandths, is off the density of the area m, 10000 × m / (W × W), by at most k / (2 × W × W), and half a ten-thousandth for the
+-- rounding. In whole numbers: 2 × |10000 × m − d × W × W| ≤ k + W × W
+abbrev pub DensityOff : Standing → (m d k : ℕ) → Type 0
+DensityOff st m d k = 2 * distance (10000 * m) (d * st .head .window * st .head .window) ≤ k + st .head .window * st .head .window
 
 -- the density d of a quick run for the greatest window, beside the exact run's maximum m
 pub record DensityPromise (st : Standing) (q : Quick) (m d : ℕ) : Type 0 where
   -- it is the middle of F and C in ten-thousandths of W × W, rounded to the nearest, an exact half to the even neighbour, and no other number is
   pub middle : Rounds (10000 * (q .last .named .area + q .last .limit)) (2 * st .head .window * st .head .window) d
-  -- however the run ended, it is the greatest density but for half of C − F; after "met" for accuracy E, but for E thousandths of that density
-  pub near : DensityBut st m d (10000 * (q .last .limit - q .last .named .area))
-  pub met : endNumber (q .end) ≡ 0 → DensityBut st m d (20 * st .head .accuracy * m)
+  -- beside the half for the rounding it is off the greatest density by at most the density of half of C − F, however the run ended; after "met"
+  -- for accuracy E, by at most E thousandths of the greatest density
+  pub near : DensityOff st m d (10000 * (q .last .limit - q .last .named .area))
+  pub met : endNumber (q .end) ≡ 0 → DensityOff st m d (20 * st .head .accuracy * m)
   -- where F is C, so after the exact search and after "met" for accuracy 0, it is the greatest density itself, rounded
   pub equal-ends : q .last .named .area ≡ q .last .limit → Rounds (10000 * m) (st .head .window * st .head .window) d
 

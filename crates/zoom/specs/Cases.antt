@@ -1,5 +1,5 @@
 -- Document 01, "Proved cases", rows A3, A4 and Z: the quick run for the greatest window; and rows for the least: job A's, whose line document
--- 02's request 1 states, and our own; and the density, with the two that request 4 states. The unit's proofs/Cases.antt shows that they follow.
+-- 02's request 1 states, and our own; and rows for the density, with the two that request 4 states. The unit's proofs/Cases.antt shows that they follow.
 use Prim.Native.Nat.{ℕ}
 use mathlib.Core.List.{List, [], _∷_}
 use Rattle.geometry.specs.declared.Sense.the-variants.{Greatest, Least}
