@@ -11,7 +11,7 @@ use Rattle.geometry.specs.declared.Rect.{Rect}
 use Rattle.geometry.specs.declared.Spot.{Spot}
 use Rattle.geometry.specs.declared.Sense.{Sense}
 use Rattle.geometry.specs.declared.Sense.the-variants.{Greatest, Least}
-use Rattle.geometry.specs.Layout.{Disjoint, rectsOf, Drawn}
+use Rattle.geometry.specs.Layout.{Disjoint, rectsOf, Layer}
 use Rattle.buffers.specs.Written.{Front}
 use Rattle.geometry.specs.Extreme.{better, NoBetter, Bounded, spotAt}
 use Rattle.geometry.proofs.Extremes.{NoLater, not-better, better-neither, IsBest, Start, start-at, start-in, rows-best-of-all, best-of-fewer, best-same, best-unique, Dispensable}
@@ -115,7 +115,7 @@ module _ (s : Sense) (t : List ℕ) (n w : ℕ) where
 
 -- ---- what the code returns
 
-pub extreme-found : (s : Sense) (t : List ℕ) (n w : ℕ) (before ys : List ℕ) (k : ℕ) (r : Spot) → Drawn t →
+pub extreme-found : (s : Sense) (t : List ℕ) (n w : ℕ) (before ys : List ℕ) (k : ℕ) (r : Spot) → Layer t →
     Front before (candidates s (rectsOf t) n w) ys k →
     r ≡ leadingInRows s (windowArea (rectsOf t) w) (triedRow s w (n - w) t) (take k ys) (spotAt (windowArea (rectsOf t) w) 0 0) →
     r ≡ extreme s (rectsOf t) n w

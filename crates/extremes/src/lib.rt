@@ -11,7 +11,7 @@ mod searching;
 ghost use Prim.Native.Nat.{_-_};
 ghost use mathlib.Core.Path.{_≡_};
 ghost use Rattle.geometry.specs.Sizes.{SmallList};
-ghost use Rattle.geometry.specs.Layout.{rectsOf, Drawn};
+ghost use Rattle.geometry.specs.Layout.{rectsOf, Layer};
 ghost use Rattle.geometry.specs.Extreme.{spotAt};
 ghost use Rattle.extremes.specs.Exact.{windowArea, extreme, exactRun};
 ghost use Rattle.extremes.specs.Search.{leadingInRows, triedRow, Searchable};
@@ -32,7 +32,7 @@ pub struct Extremes {
 
 // The window at the origin, with which every search begins.
 pub fn first_window(rects: &[u64], w: u64) -> Spot
-    requires { ⌜ Drawn (now rects) ⌝ }
+    requires { ⌜ Layer (now rects) ⌝ }
     ensures { λ r. ⌜ r ≡ spotAt (windowArea (rectsOf (now (rects .entry))) w) 0 0 ⌝ }
 {
     let cover = geometry::cover_of(rects, geometry::window_box(w, 0, 0));

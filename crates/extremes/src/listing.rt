@@ -69,7 +69,7 @@ struct ListedBy {
     last: u64,
 }
 
-// Adds the positions at which the window meets a drawn rectangle.
+// Adds the positions at which the window meets a rectangle.
 fn add_sides(rects: &[u64], edges: ListedBy, out: &mut [u64], count: usize) -> usize
     requires { ⌜ Listable (now rects) edges (now out) count ⌝ }
     ensures { λ r. ⌜ Front (now (out .entry)) (withSides (edges .near) (edges .far) (edges .last) (edges .w) (rectsOf (now (rects .entry))) (take count (now (out .entry)))) (now (out .exit)) r ⌝ }

@@ -1,4 +1,4 @@
--- The steps of the count of free squares: a box without squares, the end of the table, a rectangle that misses the box, and one that cuts it.
+-- The steps of the count of free squares: a box without squares, the end of the table, a region that misses the box, and one that cuts it.
 use Prim.Native.Nat.{ℕ, _+_, _-_, _*_, _≤_, _<_}
 use mathlib.Core.Path.{_≡_, sym, ap, _∙_, subst}
 use mathlib.Core.Bool.{Bool, true, false}
@@ -15,7 +15,7 @@ use Rattle.geometry.specs.Sizes.{widest, largest}
 use Rattle.geometry.specs.Layout.{rectsOf}
 use Rattle.geometry.specs.Overlaps.{rectAt}
 use Rattle.geometry.proofs.Tables.{rects-next, rects-end}
-use Rattle.fill.specs.Free.{grown, grownAll, freeArea, freeFrom, isEmpty, meeting, below, leftOf, rightOf, above, aroundFrom, Within}
+use Rattle.fill.specs.Free.{freeArea, freeFrom, isEmpty, meeting, below, leftOf, rightOf, above, aroundFrom, Within}
 use Rattle.fill.specs.Sizes.{SmallBox}
 use Rattle.fill.proofs.Grown.{free-small, free-none, free-apart, free-around}
 
@@ -33,11 +33,11 @@ full-box b v e h =
     let both = neither (leb (b .x2) (b .x1)) (leb (b .y2) (b .y1)) (sym e ∙ h) in
     (leb-false (b .x2) (b .x1) (both .0), leb-false (b .y2) (b .y1) (both .1))
 
-pub empty-free : (g : ℕ) (t : List ℕ) (i : ℕ) (b : Rect) (v : Bool) → v ≡ isEmpty b → v ≡ true → 0 ≡ freeFrom g t i b
-empty-free g t i b v e h = go (empty-box b v e h)
+pub empty-free : (t : List ℕ) (i : ℕ) (b : Rect) (v : Bool) → v ≡ isEmpty b → v ≡ true → 0 ≡ freeFrom t i b
+empty-free t i b v e h = go (empty-box b v e h)
   where
     rs : List Rect
-    rs = grownAll g (rectsOf (drop i t))
+    rs = rectsOf (drop i t)
 
     go : (b .x2 ≤ b .x1) ⊎ (b .y2 ≤ b .y1) → 0 ≡ freeArea rs b
     go (inl k) = omega (arith, free-small rs b, ap (λ (s : ℕ). s * (b .y2 - b .y1)) narrow, zero-mul (b .y2 - b .y1))
@@ -49,34 +49,32 @@ empty-free g t i b v e h = go (empty-box b v e h)
         flat : b .y2 - b .y1 ≡ 0
         flat = omega arith
 
--- ---- one rectangle of the table
+-- ---- one region of the table
 
-pub end-free : (g : ℕ) (t : List ℕ) (i : ℕ) (b : Rect) (s : ℕ) → length t ≤ i + 3 → s ≡ (b .x2 - b .x1) * (b .y2 - b .y1) → s ≡ freeFrom g t i b
-unfolding grownAll
-end-free g t i b s h e = e ∙ sym (free-none b) ∙ ap (λ (rs : List Rect). freeArea (grownAll g rs) b) (sym (rects-end t i h))
+pub end-free : (t : List ℕ) (i : ℕ) (b : Rect) (s : ℕ) → length t ≤ i + 3 → s ≡ (b .x2 - b .x1) * (b .y2 - b .y1) → s ≡ freeFrom t i b
+end-free t i b s h e = e ∙ sym (free-none b) ∙ ap (λ (rs : List Rect). freeArea rs b) (sym (rects-end t i h))
 
--- the table from place i on, one rectangle and the rest
-next-free : (g : ℕ) (t : List ℕ) (i : ℕ) (b : Rect) → i + 3 < length t →
-    freeFrom g t i b ≡ freeArea (grown g (rectAt t i) ∷ grownAll g (rectsOf (drop (i + 4) t))) b
-unfolding grownAll
-next-free g t i b h = ap (λ (rs : List Rect). freeArea (grownAll g rs) b) (rects-next t i h)
+-- the table from place i on, one region and the rest
+next-free : (t : List ℕ) (i : ℕ) (b : Rect) → i + 3 < length t →
+    freeFrom t i b ≡ freeArea (rectAt t i ∷ rectsOf (drop (i + 4) t)) b
+next-free t i b h = ap (λ (rs : List Rect). freeArea rs b) (rects-next t i h)
 
-pub skip-free : (g : ℕ) (t : List ℕ) (i : ℕ) (b m : Rect) (v : Bool) (s : ℕ) → i + 3 < length t → m ≡ meeting (grown g (rectAt t i)) b → v ≡ isEmpty m →
-    v ≡ true → s ≡ freeFrom g t (i + 4) b → s ≡ freeFrom g t i b
-skip-free g t i b m v s h e f k r =
+pub skip-free : (t : List ℕ) (i : ℕ) (b m : Rect) (v : Bool) (s : ℕ) → i + 3 < length t → m ≡ meeting (rectAt t i) b → v ≡ isEmpty m →
+    v ≡ true → s ≡ freeFrom t (i + 4) b → s ≡ freeFrom t i b
+skip-free t i b m v s h e f k r =
     r
-    ∙ sym (free-apart (grown g (rectAt t i)) (grownAll g (rectsOf (drop (i + 4) t))) b
-    (empty-box (meeting (grown g (rectAt t i)) b) v (f ∙ ap isEmpty e) k))
-    ∙ sym (next-free g t i b h)
+    ∙ sym (free-apart (rectAt t i) (rectsOf (drop (i + 4) t)) b
+    (empty-box (meeting (rectAt t i) b) v (f ∙ ap isEmpty e) k))
+    ∙ sym (next-free t i b h)
 
-pub cut-free : (g : ℕ) (t : List ℕ) (i : ℕ) (b m : Rect) (v : Bool) (s : ℕ) → i + 3 < length t → m ≡ meeting (grown g (rectAt t i)) b → v ≡ isEmpty m →
-    v ≡ false → s ≡ aroundFrom g t (i + 4) b m → s ≡ freeFrom g t i b
-cut-free g t i b m v s h e f k r =
-    let full = full-box (meeting (grown g (rectAt t i)) b) v (f ∙ ap isEmpty e) k in
+pub cut-free : (t : List ℕ) (i : ℕ) (b m : Rect) (v : Bool) (s : ℕ) → i + 3 < length t → m ≡ meeting (rectAt t i) b → v ≡ isEmpty m →
+    v ≡ false → s ≡ aroundFrom t (i + 4) b m → s ≡ freeFrom t i b
+cut-free t i b m v s h e f k r =
+    let full = full-box (meeting (rectAt t i) b) v (f ∙ ap isEmpty e) k in
     r
-    ∙ ap (λ (q : Rect). aroundFrom g t (i + 4) b q) e
-    ∙ sym (free-around (grown g (rectAt t i)) (grownAll g (rectsOf (drop (i + 4) t))) b (full .0) (full .1))
-    ∙ sym (next-free g t i b h)
+    ∙ ap (λ (q : Rect). aroundFrom t (i + 4) b q) e
+    ∙ sym (free-around (rectAt t i) (rectsOf (drop (i + 4) t)) b (full .0) (full .1))
+    ∙ sym (next-free t i b h)
 
 pub meeting-within : (r b m : Rect) (v : Bool) → m ≡ meeting r b → v ≡ isEmpty m → v ≡ false → Within m b
 meeting-within r b m v e f k =
@@ -94,8 +92,8 @@ size-fits b h k = mul-le-mul (across (b .x2) (b .x1) h) (across (b .y2) (b .y1) 
     across : (v u : ℕ) → v ≤ widest → v - u ≤ widest
     across v u l = omega arith
 
-pub free-fits : (g : ℕ) (t : List ℕ) (i : ℕ) (b : Rect) → b .x2 ≤ widest → b .y2 ≤ widest → freeFrom g t i b ≤ largest
-free-fits g t i b h k = omega (arith, free-small (grownAll g (rectsOf (drop i t))) b, size-fits b h k)
+pub free-fits : (t : List ℕ) (i : ℕ) (b : Rect) → b .x2 ≤ widest → b .y2 ≤ widest → freeFrom t i b ≤ largest
+free-fits t i b h k = omega (arith, free-small (rectsOf (drop i t)) b, size-fits b h k)
 
 -- ---- boxes by their corners
 
@@ -103,21 +101,21 @@ pub same-box : {a b c d x1 y1 x2 y2 : ℕ} → a ≡ x1 → b ≡ y1 → c ≡ x
     _≡_ {A = Rect} (record { x1 = a; y1 = b; x2 = c; y2 = d }) (record { x1 = x1; y1 = y1; x2 = x2; y2 = y2 })
 same-box p q r s = λ i. record { x1 = p i; y1 = q i; x2 = r i; y2 = s i }
 
-pub part-small : (t : List ℕ) (g : ℕ) (b m : Rect) → SmallBox t g b → m .x2 ≤ b .x2 → m .y2 ≤ b .y2 → SmallBox t g m
-part-small t g b m s h k = record { numbers = s .numbers; narrow = s .narrow; right = omega arith; high = omega arith }
+pub part-small : (b m : Rect) → SmallBox b → m .x2 ≤ b .x2 → m .y2 ≤ b .y2 → SmallBox m
+part-small b m s h k = record { right = omega arith; high = omega arith }
 
 -- the four counts around a box add up below 2^42
-pub parts-fit : (g : ℕ) (t : List ℕ) (i : ℕ) (b m : Rect) (p q r s : ℕ) → SmallBox t g b → Within m b → p ≡ freeFrom g t i (below b m) →
-    q ≡ freeFrom g t i (leftOf b m) → r ≡ freeFrom g t i (rightOf b m) → s ≡ freeFrom g t i (above b m) → p + q + r + s ≤ 4 * largest
-parts-fit g t i b m p q r s small within ep eq er es =
+pub parts-fit : (t : List ℕ) (i : ℕ) (b m : Rect) (p q r s : ℕ) → SmallBox b → Within m b → p ≡ freeFrom t i (below b m) →
+    q ≡ freeFrom t i (leftOf b m) → r ≡ freeFrom t i (rightOf b m) → s ≡ freeFrom t i (above b m) → p + q + r + s ≤ 4 * largest
+parts-fit t i b m p q r s small within ep eq er es =
     omega (
       arith,
       ep,
       eq,
       er,
       es,
-      free-fits g t i (below b m) (omega arith) (omega arith),
-      free-fits g t i (leftOf b m) (omega arith) (omega arith),
-      free-fits g t i (rightOf b m) (omega arith) (omega arith),
-      free-fits g t i (above b m) (omega arith) (omega arith),
+      free-fits t i (below b m) (omega arith) (omega arith),
+      free-fits t i (leftOf b m) (omega arith) (omega arith),
+      free-fits t i (rightOf b m) (omega arith) (omega arith),
+      free-fits t i (above b m) (omega arith) (omega arith),
     )

@@ -1,6 +1,7 @@
--- A unit square is eligible exactly if no rectangle, grown by the gap on all sides, holds it; and what is left of a box outside another.
+-- A unit square is eligible exactly if no region holds it, a shape's rectangle grown by its gap on all sides; and what is left of a box outside
+-- another.
 use Prim.Native.Nat.{ℕ, zero, suc, _+_, _-_, _*_, _≤_, _<_}
-use mathlib.Core.Path.{_≡_, refl, ap, ap₂, _∙_}
+use mathlib.Core.Path.{_≡_, refl, sym, ap, ap₂, _∙_}
 use mathlib.Core.Bool.{Bool, true, false, not, _&&_, _||_, and-true}
 use mathlib.Core.List.{List, [], _∷_}
 use mathlib.Core.Logic.{_⊎_, inl, inr}
@@ -14,8 +15,9 @@ use Rattle.geometry.specs.Count.{boxSum, one-if}
 use Rattle.geometry.specs.Layout.{holds, covered}
 use Rattle.geometry.proofs.Counting.{Inside, box-cong, box-le, box-const, box-cut-rows, box-cut-columns}
 use Rattle.geometry.proofs.Overlaps.{one-if-small}
-use Rattle.fill.specs.Eligible.{gapBetween, clearOf, clearOfAll, eligible, fillableArea}
-use Rattle.fill.specs.Free.{grown, grownAll, freeArea, meeting, below, leftOf, rightOf, above}
+use Rattle.fill.specs.declared.Keepout.{Keepout}
+use Rattle.fill.specs.Eligible.{gapBetween, clearOf, clearOfAll, rectsIn, eligible, fillableArea}
+use Rattle.fill.specs.Free.{regionOf, regionsOf, Regions, freeArea, freeFrom, meeting, below, leftOf, rightOf, above}
 
 -- ---- one axis
 
@@ -53,10 +55,11 @@ outside-both true true true true p q = refl
 outside-both true false true true p q = refl
 outside-both false hy true true p q = refl
 
--- uncovered and far enough is outside the grown rectangle; with gap 0 that is the rectangle itself
-one-grown : (g : ℕ) (r : Rect) (x y : ℕ) → (not (holds r x y) && clearOf g r x y) ≡ not (holds (grown g r) x y)
-one-grown zero r x y = simp (leb·zero, sub-zero, add-zero, and-true)
-one-grown (suc g) r x y =
+-- uncovered and far enough is outside the region; with gap 0 that is the rectangle itself
+one-region : (g : ℕ) (r : Rect) (x y : ℕ) →
+    (not (holds r x y) && clearOf (record { rect = r; gap = g }) x y) ≡ not (holds (regionOf (record { rect = r; gap = g })) x y)
+one-region zero r x y = simp (leb·zero, sub-zero, add-zero, and-true)
+one-region (suc g) r x y =
     rw (far g (r .x1) (r .x2) x, far g (r .y1) (r .y2) y)
     (outside-both (between (r .x1) (r .x2) x) (between (r .y1) (r .y2) y)
     (between (r .x1 - suc g) (r .x2 + suc g) x) (between (r .y1 - suc g) (r .y2 + suc g) y)
@@ -72,17 +75,21 @@ not-or : (a b : Bool) → (not a && not b) ≡ not (a || b)
 not-or true b = refl
 not-or false b = refl
 
-pub eligible-grown : (g : ℕ) (rs : List Rect) (x y : ℕ) → eligible g rs x y ≡ not (covered (grownAll g rs) x y)
-unfolding covered clearOfAll grownAll
-eligible-grown g [] x y = refl
-eligible-grown g (r ∷ rs) x y =
-    regrouped (holds r x y) (covered rs x y) (clearOf g r x y) (clearOfAll g rs x y)
-    ∙ ap₂ _&&_ (one-grown g r x y) (eligible-grown g rs x y)
-    ∙ not-or (holds (grown g r) x y) (covered (grownAll g rs) x y)
+pub eligible-outside : (ks : List Keepout) (x y : ℕ) → eligible ks x y ≡ not (covered (regionsOf ks) x y)
+unfolding covered clearOfAll
+eligible-outside [] x y = refl
+eligible-outside (k ∷ ks) x y =
+    regrouped (holds (k .rect) x y) (covered (rectsIn ks) x y) (clearOf k x y) (clearOfAll ks x y)
+    ∙ ap₂ _&&_ (one-region (k .gap) (k .rect) x y) (eligible-outside ks x y)
+    ∙ not-or (holds (regionOf k) x y) (covered (regionsOf ks) x y)
 
-pub fillable-grown : (g : ℕ) (rs : List Rect) (b : Rect) → fillableArea g rs b ≡ freeArea (grownAll g rs) b
-fillable-grown g rs b =
-    box-cong b (λ x y. one-if (eligible g rs x y)) (λ x y. one-if (not (covered (grownAll g rs) x y))) (λ x y i. ap one-if (eligible-grown g rs x y))
+pub fillable-outside : (ks : List Keepout) (b : Rect) → fillableArea ks b ≡ freeArea (regionsOf ks) b
+fillable-outside ks b =
+    box-cong b (λ x y. one-if (eligible ks x y)) (λ x y. one-if (not (covered (regionsOf ks) x y))) (λ x y i. ap one-if (eligible-outside ks x y))
+
+-- what is free by a table of regions is what is fillable
+pub regions-fillable : (t : List ℕ) (ks : List Keepout) (b : Rect) → Regions t ks → freeFrom t 0 b ≡ fillableArea ks b
+regions-fillable t ks b e = ap (λ (rs : List Rect). freeArea rs b) e ∙ sym (fillable-outside ks b)
 
 -- ---- what is left of a box
 
@@ -95,8 +102,8 @@ free-small rs b =
     )
 
 -- a box takes no more fill than it has squares
-pub fillable-small : (g : ℕ) (rs : List Rect) (b : Rect) → fillableArea g rs b ≤ (b .x2 - b .x1) * (b .y2 - b .y1)
-fillable-small g rs b = omega (arith, fillable-grown g rs b, free-small (grownAll g rs) b)
+pub fillable-small : (ks : List Keepout) (b : Rect) → fillableArea ks b ≤ (b .x2 - b .x1) * (b .y2 - b .y1)
+fillable-small ks b = omega (arith, fillable-outside ks b, free-small (regionsOf ks) b)
 
 -- no rectangle: every square is free
 pub free-none : (b : Rect) → freeArea [] b ≡ (b .x2 - b .x1) * (b .y2 - b .y1)

@@ -19,6 +19,7 @@ use Rattle.geometry.proofs.Overlaps.{area-small}
 use Rattle.sweep.specs.declared.Frame.{Frame}
 use Rattle.sweep.specs.Strips.{stripSum, StripOf}
 use Rattle.sweep.specs.Cursors.{frameAt, ColumnsInOrder}
+use Rattle.fill.specs.declared.Keepout.{Keepout}
 use Rattle.fill.specs.declared.Plan.{Plan}
 use Rattle.fill.specs.declared.Bound.{Bound}
 use Rattle.fill.specs.declared.Failing.{Failing}
@@ -86,8 +87,8 @@ tile-small : (rs : List Rect) (side i j : ℕ) → coveredArea rs (tile side i j
 tile-small rs side i j = omega (arith, area-small rs (tile side i j), ap₂ _*_ (tile-width side i) (tile-width side j))
 
 -- a tile takes no more fill than its area, so an amount that fits its tile meets `Tiled`
-pub tile-fillable : (gap : ℕ) (rs : List Rect) (side i j : ℕ) → fillableArea gap rs (tile side i j) ≤ side * side
-tile-fillable gap rs side i j = omega (arith, fillable-small gap rs (tile side i j), ap₂ _*_ (tile-width side i) (tile-width side j))
+pub tile-fillable : (ks : List Keepout) (side i j : ℕ) → fillableArea ks (tile side i j) ≤ side * side
+tile-fillable ks side i j = omega (arith, fillable-small ks (tile side i j), ap₂ _*_ (tile-width side i) (tile-width side j))
 
 -- ---- a row of tiles by its strip
 

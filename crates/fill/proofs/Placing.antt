@@ -10,9 +10,9 @@ use lib.Arith.{digits-div, digits-mod}
 use lib.Dec.{ltb}
 use borrow.Author.Tests.{lt-ltb, le-ltb}
 use Rattle.laws.proofs.Tests.{le-or-lt, T-both}
-use Rattle.geometry.specs.declared.Rect.{Rect}
 use Rattle.geometry.specs.Count.{sum, boxSum, one-if}
 use Rattle.geometry.proofs.Counting.{sum-cong}
+use Rattle.fill.specs.declared.Keepout.{Keepout}
 use Rattle.fill.specs.declared.Plan.{Plan}
 use Rattle.fill.specs.Eligible.{eligible, tile, fillableArea}
 use Rattle.fill.specs.Judge.{numberAt}
@@ -56,10 +56,10 @@ abbrev firsts : (ℕ → ℕ → Bool) → List ℕ → (across side : ℕ) → 
 firsts e amounts across side x y =
     e x y && ltb (rank side (λ m k. e (x / side * side + m) (y / side * side + k)) (x % side) (y % side)) (numberAt amounts across (x / side) (y / side))
 
-module _ (gap : ℕ) (rs : List Rect) (amounts : List ℕ) (across side : ℕ)
-    (fit : (i j : ℕ) → i < across → j < across → numberAt amounts across i j ≤ fillableArea gap rs (tile side i j)) where
+module _ (ks : List Keepout) (amounts : List ℕ) (across side : ℕ)
+    (fit : (i j : ℕ) → i < across → j < across → numberAt amounts across i j ≤ fillableArea ks (tile side i j)) where
   chosen : ℕ → ℕ → Bool
-  chosen = firsts (eligible gap rs) amounts across side
+  chosen = firsts (eligible ks) amounts across side
 
   exactly : (i j : ℕ) → i < across → j < across → chosenArea chosen (tile side i j) ≡ numberAt amounts across i j
   unfolding chosen
@@ -68,11 +68,11 @@ module _ (gap : ℕ) (rs : List Rect) (amounts : List ℕ) (across side : ℕ)
       ∙ sum-cong side (λ k. sum side (λ m. one-if (chosen (i * side + m) (j * side + k)))) (λ k. sum side (λ m. one-if (e m k && ltb (rank side e m k) p)))
       (λ k hk. sum-cong side (λ m. one-if (chosen (i * side + m) (j * side + k))) (λ m. one-if (e m k && ltb (rank side e m k) p)) (λ m hm. local m k hm hk))
       ∙ rows-taken side side p e
-      ∙ ap (λ (s : ℕ). min p s) (sym (tile-sum side i j (λ x y. one-if (eligible gap rs x y))))
+      ∙ ap (λ (s : ℕ). min p s) (sym (tile-sum side i j (λ x y. one-if (eligible ks x y))))
       ∙ min-eq-left (fit i j hi hj)
     where
       e : ℕ → ℕ → Bool
-      e m k = eligible gap rs (i * side + m) (j * side + k)
+      e m k = eligible ks (i * side + m) (j * side + k)
 
       p : ℕ
       p = numberAt amounts across i j
@@ -80,14 +80,14 @@ module _ (gap : ℕ) (rs : List Rect) (amounts : List ℕ) (across side : ℕ)
       local : (m k : ℕ) → m < side → k < side → one-if (chosen (i * side + m) (j * side + k)) ≡ one-if (e m k && ltb (rank side e m k) p)
       local m k hm hk = simp (digits-div i hm, digits-div j hk, digits-mod i hm, digits-mod j hk)
 
-module _ (gap : ℕ) (rs : List Rect) (amounts : List ℕ) (plan : Plan)
-    (fit : (i j : ℕ) → i < plan .across → j < plan .across → numberAt amounts (plan .across) i j ≤ fillableArea gap rs (tile (plan .side) i j)) where
-  pub placement : (chosen : ℕ → ℕ → Bool) × Placement gap rs amounts plan chosen
+module _ (ks : List Keepout) (amounts : List ℕ) (plan : Plan)
+    (fit : (i j : ℕ) → i < plan .across → j < plan .across → numberAt amounts (plan .across) i j ≤ fillableArea ks (tile (plan .side) i j)) where
+  pub placement : (chosen : ℕ → ℕ → Bool) × Placement ks amounts plan chosen
   unfolding chosen
   placement = (
-    chosen gap rs amounts (plan .across) (plan .side) fit,
+    chosen ks amounts (plan .across) (plan .side) fit,
     record {
-      allowed = λ x y h. T-both (eligible gap rs x y) _ h .0;
-      stated = exactly gap rs amounts (plan .across) (plan .side) fit;
+      allowed = λ x y h. T-both (eligible ks x y) _ h .0;
+      stated = exactly ks amounts (plan .across) (plan .side) fit;
     },
   )

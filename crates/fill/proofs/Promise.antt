@@ -13,6 +13,7 @@ use Rattle.geometry.specs.declared.Rect.{Rect}
 use Rattle.geometry.specs.Count.{boxSum, one-if}
 use Rattle.geometry.specs.Layout.{covered, coveredArea, windowBox}
 use Rattle.geometry.proofs.Counting.{box-cong, box-plus, box-within}
+use Rattle.fill.specs.declared.Keepout.{Keepout}
 use Rattle.fill.specs.declared.Plan.{Plan}
 use Rattle.fill.specs.declared.Bound.{Bound}
 use Rattle.fill.specs.declared.Bound.the-variants.{Over, Under}
@@ -75,7 +76,7 @@ judged-broken (At c v z) m b i j e = cc
 
 -- ---- sums
 
--- drawn metal and fill on a unit square
+-- metal and fill on a unit square
 abbrev metal : List Rect → (ℕ → ℕ → Bool) → ℕ → ℕ → ℕ
 metal rs chosen x y = one-if (covered rs x y) + one-if (chosen x y)
 
@@ -112,8 +113,8 @@ pub record FirstBroken (plan : Plan) (total : ℕ → ℕ → ℕ) (b : Bound) (
   pub rows-before : (c : Bound) (v z : ℕ) → v ≤ plan .across - plan .cut → z < j → T (keeps c plan (total v z))
   pub columns-before : (c : Bound) (v : ℕ) → v < i → T (keeps c plan (total v j))
 
-module _ (gap : ℕ) (rs : List Rect) (amounts : List ℕ) (plan : Plan) (size : ℕ) (whole : Dissected plan size) (chosen : ℕ → ℕ → Bool)
-    (p : Placement gap rs amounts plan chosen) where
+module _ (ks : List Keepout) (rs : List Rect) (amounts : List ℕ) (plan : Plan) (size : ℕ) (whole : Dissected plan size) (chosen : ℕ → ℕ → Bool)
+    (p : Placement ks amounts plan chosen) where
   abbrev across : ℕ
   across = plan .across
 

@@ -1,8 +1,9 @@
 -- Document 01, "Proved cases", rows A5 to A8: fillable areas and verdicts. The unit's proofs/Cases.antt shows that they follow.
 use Prim.Native.Nat.{ℕ}
-use mathlib.Core.List.{List, [], _∷_}
+use mathlib.Core.List.{List, [], _∷_, map}
 use Rattle.geometry.specs.Row.{Row, row}
 use Rattle.geometry.specs.JobA.{shapesA}
+use Rattle.fill.specs.declared.Keepout.{Keepout}
 use Rattle.fill.specs.Eligible.{fillableArea, tile}
 use Rattle.fill.specs.Judge.{verdictOf, verdictNumbers}
 
@@ -10,13 +11,17 @@ use Rattle.fill.specs.Judge.{verdictOf, verdictNumbers}
 abbrev pub amountsA : List ℕ
 amountsA = 2 ∷ 0 ∷ 0 ∷ 0 ∷ 0 ∷ 0 ∷ 0 ∷ 0 ∷ 0 ∷ 0 ∷ 0 ∷ 0 ∷ 0 ∷ 0 ∷ 0 ∷ 0 ∷ []
 
+-- job A's rectangle, with the gap B
+abbrev keepoutsA : List Keepout
+keepoutsA = map (λ r. record { rect = r; gap = 1 }) shapesA
+
 -- the verdict on job A under the upper bound u
 abbrev pub verdictA : ℕ → List ℕ
 verdictA u = verdictNumbers (verdictOf shapesA amountsA (record { across = 4; cut = 2; side = 2; window = 4; lower = 0; upper = u }))
 
 abbrev pub fillRows : List Row
 fillRows =
-    row "A5" (fillableArea 1 shapesA (tile 2 0 0) ∷ fillableArea 1 shapesA (tile 2 1 1) ∷ []) (4 ∷ 0 ∷ [])
+    row "A5" (fillableArea keepoutsA (tile 2 0 0) ∷ fillableArea keepoutsA (tile 2 1 1) ∷ []) (4 ∷ 0 ∷ [])
     ∷ row "A6" (verdictA 5000) (0 ∷ [])
     ∷ row "A7" (verdictA 2500) (2 ∷ 0 ∷ 0 ∷ 0 ∷ [])
     ∷ row "A8" (verdictA 2000) (1 ∷ 0 ∷ 1 ∷ 1 ∷ [])

@@ -1,39 +1,43 @@
 -- What the code counts in place of eligible squares, and the boxes that it cuts. A buyer need not read it: proofs/Grown.antt shows that the
--- squares outside the grown rectangles are the eligible ones, and proofs/Near.antt that a part of a table is enough for a box.
+-- squares outside the regions are the eligible ones, and proofs/Near.antt that a part of a table is enough for a box.
 use Prim.Native.Nat.{ℕ, _+_, _-_, _*_, _≤_, _<_, min, max}
 use mathlib.Core.Path.{_≡_}
 use mathlib.Core.Bool.{Bool, false, not, _&&_, _||_}
-use mathlib.Core.List.{List, [], _∷_}
+use mathlib.Core.List.{List, map}
 use lib.Dec.{leb, ltb}
 use lib.ListN.{length, take, drop}
 use Rattle.geometry.specs.declared.Rect.{Rect}
 use Rattle.geometry.specs.Count.{one-if, boxSum}
 use Rattle.geometry.specs.Layout.{covered, rectsOf}
+use Rattle.fill.specs.declared.Keepout.{Keepout}
 use Rattle.fill.specs.declared.Part.{Part}
-use Rattle.fill.specs.Eligible.{fillableArea}
 
--- a rectangle grown by the gap on all sides, cut off at 0
-abbrev pub grown : ℕ → Rect → Rect
-grown gap r = record { x1 = r .x1 - gap; y1 = r .y1 - gap; x2 = r .x2 + gap; y2 = r .y2 + gap }
+-- the region that a shape keeps free of fill: its rectangle grown by its gap on all sides, cut off at 0
+abbrev pub regionOf : Keepout → Rect
+regionOf k =
+    record { x1 = k .rect .x1 - k .gap; y1 = k .rect .y1 - k .gap; x2 = k .rect .x2 + k .gap; y2 = k .rect .y2 + k .gap }
 
-unfoldable pub grownAll : ℕ → List Rect → List Rect
-grownAll gap [] = []
-grownAll gap (r ∷ rs) = grown gap r ∷ grownAll gap rs
+abbrev pub regionsOf : List Keepout → List Rect
+regionsOf ks = map regionOf ks
+
+-- a table holds the regions of shapes, four numbers each
+abbrev pub Regions : (table : List ℕ) → List Keepout → Type 0
+Regions table ks = rectsOf table ≡ regionsOf ks
 
 -- the squares of a box that no rectangle covers
 abbrev pub freeArea : List Rect → Rect → ℕ
 freeArea rs b = boxSum b (λ x y. one-if (not (covered rs x y)))
 
--- the squares of a box that none of the rectangles from place i of a table holds, each grown by the gap
-abbrev pub freeFrom : (gap : ℕ) (table : List ℕ) (i : ℕ) → Rect → ℕ
-freeFrom gap table i b = freeArea (grownAll gap (rectsOf (drop i table))) b
+-- the squares of a box that no region from place i of a table on holds
+abbrev pub freeFrom : (table : List ℕ) (i : ℕ) → Rect → ℕ
+freeFrom table i b = freeArea (rectsOf (drop i table)) b
 
 abbrev pub isEmpty : Rect → Bool
 isEmpty b = leb (b .x2) (b .x1) || leb (b .y2) (b .y1)
 
--- a rectangle that is not near holds no square of the box, also if it is grown by the gap
-abbrev pub isNear : (gap : ℕ) → (r b : Rect) → Bool
-isNear gap r b = ltb (r .y1) (b .y2 + gap) && (ltb (b .y1) (r .y2 + gap) && (ltb (r .x1) (b .x2 + gap) && ltb (b .x1) (r .x2 + gap)))
+-- a region that is not near holds no square of the box
+abbrev pub isNear : (r b : Rect) → Bool
+isNear r b = ltb (r .y1) (b .y2) && (ltb (b .y1) (r .y2) && (ltb (r .x1) (b .x2) && ltb (b .x1) (r .x2)))
 
 -- what two boxes have in common
 abbrev pub meeting : (r b : Rect) → Rect
@@ -52,10 +56,10 @@ rightOf b m = record { x1 = m .x2; y1 = m .y1; x2 = b .x2; y2 = m .y2 }
 abbrev pub above : (b m : Rect) → Rect
 above b m = record { x1 = b .x1; y1 = m .y2; x2 = b .x2; y2 = b .y2 }
 
--- the free squares around m, by the rectangles from place i on
-abbrev pub aroundFrom : (gap : ℕ) (table : List ℕ) (i : ℕ) → (b m : Rect) → ℕ
-aroundFrom gap table i b m =
-    freeFrom gap table i (below b m) + freeFrom gap table i (leftOf b m) + freeFrom gap table i (rightOf b m) + freeFrom gap table i (above b m)
+-- the free squares around m, by the regions from place i on
+abbrev pub aroundFrom : (table : List ℕ) (i : ℕ) → (b m : Rect) → ℕ
+aroundFrom table i b m =
+    freeFrom table i (below b m) + freeFrom table i (leftOf b m) + freeFrom table i (rightOf b m) + freeFrom table i (above b m)
 
 -- the box m lies in the box b
 pub record Within (m b : Rect) : Type 0 where
@@ -66,30 +70,29 @@ pub record Within (m b : Rect) : Type 0 where
   pub up : m .y1 ≤ m .y2
   pub high : m .y2 ≤ b .y2
 
--- whether a rectangle from place i of a table on holds a square, grown by the gap
-abbrev pub heldFrom : (gap : ℕ) (table : List ℕ) (i : ℕ) → (x y : ℕ) → Bool
-heldFrom gap table i x y = covered (grownAll gap (rectsOf (drop i table))) x y
+-- whether a region from place i of a table on holds a square
+abbrev pub heldFrom : (table : List ℕ) (i : ℕ) → (x y : ℕ) → Bool
+heldFrom table i x y = covered (rectsOf (drop i table)) x y
 
--- of the squares of the box, the rectangles from place k on hold those that the rectangles from place i on hold
-pub record Skipped (gap : ℕ) (table : List ℕ) (i : ℕ) (b : Rect) (k : ℕ) : Type 0 where
+-- of the squares of the box, the regions from place k on hold those that the regions from place i on hold
+pub record Skipped (table : List ℕ) (i : ℕ) (b : Rect) (k : ℕ) : Type 0 where
   pub onward : i ≤ k
   pub within : k ≤ length table
-  pub same : (x y : ℕ) → b .x1 ≤ x → x < b .x2 → b .y1 ≤ y → y < b .y2 → heldFrom gap table k x y ≡ heldFrom gap table i x y
+  pub same : (x y : ℕ) → b .x1 ≤ x → x < b .x2 → b .y1 ≤ y → y < b .y2 → heldFrom table k x y ≡ heldFrom table i x y
 
--- place k is some whole rectangles behind place i, and those from k on hold no square of the box
-pub record LastNear (gap : ℕ) (table : List ℕ) (i : ℕ) (b : Rect) (k : ℕ) : Type 0 where
-  pub rects : ℕ
-  pub whole : k ≡ i + 4 * rects
+-- place k is some whole regions behind place i, and those from k on hold no square of the box
+pub record LastNear (table : List ℕ) (i : ℕ) (b : Rect) (k : ℕ) : Type 0 where
+  pub regions : ℕ
+  pub whole : k ≡ i + 4 * regions
   pub within : k ≤ length table
-  pub rest : (x y : ℕ) → b .x1 ≤ x → x < b .x2 → b .y1 ≤ y → y < b .y2 → heldFrom gap table k x y ≡ false
+  pub rest : (x y : ℕ) → b .x1 ≤ x → x < b .x2 → b .y1 ≤ y → y < b .y2 → heldFrom table k x y ≡ false
 
 -- the numbers of a part of a table
 abbrev pub partOf : Part → List ℕ → List ℕ
 partOf p table = take (p .to - p .from) (drop (p .from) table)
 
--- a part of a table has all that decides on the squares of a box: in every box inside, as many are fillable by the part as by the table
-pub record Serves (gap : ℕ) (table : List ℕ) (b : Rect) (p : Part) : Type 0 where
+-- a part of a table has all that decides on the squares of a box: in every box inside, as many are free by the part as by the table
+pub record Serves (table : List ℕ) (b : Rect) (p : Part) : Type 0 where
   pub order : p .from ≤ p .to
   pub within : p .to ≤ length table
-  pub same : (c : Rect) → b .x1 ≤ c .x1 → b .y1 ≤ c .y1 → c .x2 ≤ b .x2 → c .y2 ≤ b .y2 →
-      fillableArea gap (rectsOf (partOf p table)) c ≡ fillableArea gap (rectsOf table) c
+  pub same : (c : Rect) → b .x1 ≤ c .x1 → b .y1 ≤ c .y1 → c .x2 ≤ b .x2 → c .y2 ≤ b .y2 → freeFrom (partOf p table) 0 c ≡ freeFrom table 0 c

@@ -8,6 +8,7 @@ use Rattle.geometry.specs.declared.Rect.{Rect}
 use Rattle.geometry.specs.Count.{one-if, boxSum}
 use Rattle.geometry.specs.Layout.{coveredArea, windowBox}
 use Rattle.fill.specs.Eligible.{eligible, tile}
+use Rattle.fill.specs.declared.Keepout.{Keepout}
 use Rattle.fill.specs.declared.Plan.{Plan}
 use Rattle.fill.specs.declared.Bound.{Bound}
 use Rattle.fill.specs.declared.Bound.the-variants.{Over, Under}
@@ -18,8 +19,8 @@ abbrev pub chosenArea : (ℕ → ℕ → Bool) → Rect → ℕ
 chosenArea chosen b = boxSum b (λ x y. one-if (chosen x y))
 
 -- a placement: every chosen square is eligible, and each tile holds as many of them as its stated amount, in any place
-pub record Placement (gap : ℕ) (rs : List Rect) (amounts : List ℕ) (plan : Plan) (chosen : ℕ → ℕ → Bool) : Type 0 where
-  pub allowed : (x y : ℕ) → T (chosen x y) → T (eligible gap rs x y)
+pub record Placement (ks : List Keepout) (amounts : List ℕ) (plan : Plan) (chosen : ℕ → ℕ → Bool) : Type 0 where
+  pub allowed : (x y : ℕ) → T (chosen x y) → T (eligible ks x y)
   pub stated : (i j : ℕ) → i < plan .across → j < plan .across → chosenArea chosen (tile (plan .side) i j) ≡ numberAt amounts (plan .across) i j
 
 -- the sum S of the window of side w at (x, y): its covered and its chosen squares

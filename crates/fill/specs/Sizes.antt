@@ -6,8 +6,9 @@ use mathlib.Core.List.{List}
 use lib.ListN.{length, getD}
 use Rattle.geometry.specs.declared.Rect.{Rect}
 use Rattle.geometry.specs.Sizes.{widest, largest}
-use Rattle.geometry.specs.Layout.{Drawn}
+use Rattle.geometry.specs.Layout.{Layer}
 use Rattle.sweep.specs.Strips.{stripSum}
+use Rattle.fill.specs.declared.Keepout.{Keepout}
 use Rattle.fill.specs.declared.Plan.{Plan}
 use Rattle.fill.specs.Free.{Within}
 
@@ -26,10 +27,14 @@ heaviest = 1125899906842624
 abbrev pub topBound : ℕ
 topBound = 10000
 
--- no number of the table, no gap and no far corner of the box past 2^20; the rectangles may overlap
-pub record SmallBox (table : List ℕ) (gap : ℕ) (b : Rect) : Type 0 where
-  pub numbers : (i : ℕ) → getD table i 0 ≤ widest
-  pub narrow : gap ≤ widest
+-- a shape whose region is formed
+pub record SmallKeepout (k : Keepout) : Type 0 where
+  pub right : k .rect .x2 ≤ widest
+  pub high : k .rect .y2 ≤ widest
+  pub narrow : k .gap ≤ widest
+
+-- no far corner of the box past 2^20; the regions of the table may overlap and lie anywhere
+pub record SmallBox (b : Rect) : Type 0 where
   pub right : b .x2 ≤ widest
   pub high : b .y2 ≤ widest
 
@@ -40,21 +45,15 @@ pub record Upright (b : Rect) : Type 0 where
   pub right : b .x2 ≤ widest
   pub high : b .y2 ≤ widest
 
--- a rectangle stands at a place of the table, and may be grown by the gap
-pub record Growable (table : List ℕ) (gap at : ℕ) : Type 0 where
-  pub place : at + 3 < length table
-  pub numbers : (i : ℕ) → getD table i 0 ≤ widest
-  pub narrow : gap ≤ widest
-
--- the squares around the box m, which lies in b, are counted by the rectangles from a place on
-pub record Around (table : List ℕ) (gap at : ℕ) (b m : Rect) : Type 0 where
+-- the squares around the box m, which lies in b, are counted by the regions from a place on
+pub record Around (table : List ℕ) (at : ℕ) (b m : Rect) : Type 0 where
   pub place : at ≤ length table
-  pub small : SmallBox table gap b
+  pub small : SmallBox b
   pub within : Within m b
 
 -- a layout whose loads are formed: its rectangles, and an amount for each of its tiles, at most `mostAcross` across
 pub record Tiled (rects amounts : List ℕ) (plan : Plan) : Type 0 where
-  pub drawn : Drawn rects
+  pub layer : Layer rects
   pub few : plan .across ≤ mostAcross
   pub table : length amounts ≡ plan .across * plan .across
   pub room : (i : ℕ) → getD amounts i 0 ≤ plan .side * plan .side

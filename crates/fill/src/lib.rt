@@ -6,15 +6,18 @@ ghost use mathlib.Core.Path.{_≡_};
 ghost use Rattle.geometry.specs.Sizes.{widest};
 ghost use Rattle.geometry.specs.Layout.{rectsOf};
 ghost use Rattle.sweep.specs.Strips.{Swept};
-ghost use Rattle.fill.specs.Eligible.{tile, fillableArea};
-ghost use Rattle.fill.specs.Free.{Serves};
+ghost use Rattle.fill.specs.Eligible.{tile};
+ghost use Rattle.fill.specs.Free.{freeFrom, Serves};
 ghost use Rattle.fill.specs.Judge.{verdictOf};
 ghost use Rattle.fill.specs.Sizes.{SmallBox, Planned};
 
 mod corners;
 mod free;
 mod judging;
+mod regions;
 mod tiling;
+
+pub use regions::keep_out;
 
 // How many tiles may lie across a layout, and the numbers of a table with one for
 // each.
@@ -53,7 +56,13 @@ pub struct Plan {
     pub upper: u64,
 }
 
-// A part of a table of rectangles, from one place to before another.
+// A shape as fill sees it: its rectangle, and the least gap between it and fill.
+pub struct Keepout {
+    pub rect: Rect,
+    pub gap: u64,
+}
+
+// A part of a table of regions, from one place to before another.
 pub struct Part {
     pub from: usize,
     pub to: usize,
@@ -67,28 +76,27 @@ pub fn tile_box(side: u64, i: u64, j: u64) -> Rect
     window_box(side, i * side, j * side)
 }
 
-// The fillable area of a box, such as a tile, by a part of the table that is
-// enough for it. The table is lent without padding: a rectangle of zeros covers
-// nothing, yet holds fill a gap away from (0, 0).
-pub fn fillable(rects: &[u64], near: Part, gap: u64, b: Rect) -> u64
-    requires { ⌜ SmallBox (now rects) gap b ⌝ }
-    requires { ⌜ Serves gap (now rects) b near ⌝ }
-    ensures { λ r. ⌜ r ≡ fillableArea gap (rectsOf (now (rects .entry))) b ⌝ }
+// The squares of a box, such as a tile, that no region of a table holds, by a part
+// of the table that is enough for the box. By the regions of a job's shapes it is
+// the fillable area.
+pub fn fillable(regions: &[u64], near: Part, b: Rect) -> u64
+    requires { ⌜ SmallBox b ⌝ }
+    requires { ⌜ Serves (now regions) b near ⌝ }
+    ensures { λ r. ⌜ r ≡ freeFrom (now (regions .entry)) 0 b ⌝ }
 {
     let from = near.from;
     let to = near.to;
-    free::free_from(&rects[from..to], gap, 0, b)
+    free::free_from(&regions[from..to], 0, b)
 }
 
 // A part of a table that is enough for a box and for every box inside: from the
-// first to the last rectangle that comes near. The contract leaves open which part
+// first to the last region that comes near. The contract leaves open which part
 // it is, since every one that serves gives the same areas.
-pub fn part_near(rects: &[u64], gap: u64, b: Rect) -> Part
-    requires { ⌜ SmallBox (now rects) gap b ⌝ }
-    ensures { λ p. ⌜ Serves gap (now (rects .entry)) b p ⌝ }
+pub fn part_near(regions: &[u64], b: Rect) -> Part
+    ensures { λ p. ⌜ Serves (now (regions .entry)) b p ⌝ }
 {
-    let from = free::next_near(rects, gap, 0, b);
-    let to = free::last_near(rects, gap, from, b);
+    let from = free::next_near(regions, 0, b);
+    let to = free::last_near(regions, from, b);
     Part { from, to }
 }
 

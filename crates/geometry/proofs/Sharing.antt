@@ -1,4 +1,4 @@
--- A box shares a unit square with drawn rectangles exactly if some unit square lies in it and is covered; and no shape lies under it exactly if
+-- A box shares a unit square with rectangles exactly if some unit square lies in it and is covered; and no shape lies under it exactly if
 -- its area is 0.
 use Prim.Native.Nat.{ℕ, _+_, _≤_, _<_}
 use mathlib.Core.Path.{_≡_, refl, ap, subst}
@@ -50,14 +50,14 @@ pub record SharedSquare (rs : List Rect) (b : Rect) : Type 0 where
   pub x : ℕ
   pub y : ℕ
   pub in-box : T (holds b x y)
-  pub in-drawn : T (covered rs x y)
+  pub in-rects : T (covered rs x y)
 
 pub shared→shares : (rs : List Rect) (b : Rect) → SharedSquare rs b → sharesSquare rs b ≡ true
 shared→shares rs b s =
     lt-ltb 0 (coveredArea rs b)
     (omega (
       arith,
-      counted (covered rs (s .x) (s .y)) (s .in-drawn),
+      counted (covered rs (s .x) (s .y)) (s .in-rects),
       box-term b (λ x y. one-if (covered rs x y)) (s .x) (s .y) (holds-inside b (s .x) (s .y) (s .in-box)),
     ))
 
@@ -68,12 +68,12 @@ shares→shared rs b e =
       x = at .0;
       y = at .1;
       in-box = inside-holds b (at .0) (at .1) (at .2);
-      in-drawn = counts (covered rs (at .0) (at .1)) (at .3);
+      in-rects = counts (covered rs (at .0) (at .1)) (at .3);
     }
 
 -- no shared square: what `Disjoint` asks of a rectangle and the others
 pub shares-none : (rs : List Rect) (b : Rect) → sharesSquare rs b ≡ false → (x y : ℕ) → T (holds b x y) → T (covered rs x y) → ⊥
-shares-none rs b e x y h k = true-false (sharesSquare rs b) (shared→shares rs b (record { x = x; y = y; in-box = h; in-drawn = k })) e
+shares-none rs b e x y h k = true-false (sharesSquare rs b) (shared→shares rs b (record { x = x; y = y; in-box = h; in-rects = k })) e
 
 -- ---- shapes under a box
 

@@ -7,11 +7,11 @@ use mathlib.Core.List.{List, [], _∷_, _++_}
 use native.Mathlib.Numerals.{add-one, add-two, add-three}
 use native.Mathlib.Omega.{arith}
 use lib.Dec.{T}
-use lib.ListN.{length, getD, drop, length-drop}
-use lib.Seq.{drop-cons}
+use lib.ListN.{length, getD, take, drop, length-append, length-drop}
+use lib.Seq.{drop-cons, take-at, drop-at, sets-eq, length-sets, length-take-le}
 use Rattle.laws.proofs.Tests.{T-either, T-left, T-right}
 use Rattle.geometry.specs.declared.Rect.{Rect}
-use Rattle.geometry.specs.Layout.{holds, covered, Disjoint, rectsOf}
+use Rattle.geometry.specs.Layout.{holds, covered, Disjoint, rectsOf, withRect}
 use Rattle.geometry.specs.Overlaps.{rectAt}
 
 -- ---- the numbers at a place of a table
@@ -111,3 +111,29 @@ disjoint-more (r′ ∷ rs) r d h = (
     go : (x y : ℕ) → T (holds r′ x y) → T (covered rs x y) ⊎ T (holds r x y || false) → ⊥
     go x y p (inl q) = d .0 x y p q
     go x y p (inr q) = h x y (subst T (or-false (holds r x y)) q) (T-left (holds r′ x y) (covered rs x y) p)
+
+-- ---- a table with room behind its rectangles
+
+abbrev pub fourOf : Rect → List ℕ
+fourOf r = r .x1 ∷ r .y1 ∷ r .x2 ∷ r .y2 ∷ []
+
+module _ (l : List ℕ) (c : ℕ) (r : Rect) (h : 4 * c + 4 ≤ length l) where
+  next : 4 * suc c ≡ 4 * c + 4
+  next = omega arith
+
+  pub stored-split : withRect l c r ≡ take (4 * c) l ++ fourOf r ++ drop (4 * suc c) l
+  stored-split = rw (next, add-one, add-two, add-three) (sets-eq (fourOf r) l (4 * c) h)
+
+  front : length (take (4 * c) l ++ fourOf r) ≡ 4 * suc c
+  front = omega (arith, length-append (take (4 * c) l) (fourOf r), length-take-le (4 * c) l (omega arith))
+
+  pub stored-rects : rectsOf (take (4 * suc c) (withRect l c r)) ≡ rectsOf (take (4 * c) l) ++ (r ∷ [])
+  stored-rects =
+      ap rectsOf (ap (take (4 * suc c)) stored-split ∙ take-at (take (4 * c) l ++ fourOf r) (drop (4 * suc c) l) (4 * suc c) front)
+      ∙ rects-more c (take (4 * c) l) (r .x1) (r .y1) (r .x2) (r .y2) (length-take-le (4 * c) l (omega arith))
+
+  pub stored-behind : drop (4 * suc c) (withRect l c r) ≡ drop (4 * suc c) l
+  stored-behind = ap (drop (4 * suc c)) stored-split ∙ drop-at (take (4 * c) l ++ fourOf r) (drop (4 * suc c) l) (4 * suc c) front
+
+  pub stored-length : length (withRect l c r) ≡ length l
+  stored-length = rw (add-one, add-two, add-three) (length-sets l (4 * c) (fourOf r))

@@ -10,7 +10,7 @@ use Rattle.geometry.specs.declared.Rect.{Rect}
 use Rattle.geometry.specs.declared.Cover.{Cover}
 use Rattle.geometry.specs.Sizes.{widest, largest, SmallList}
 use Rattle.geometry.specs.Count.{one-if, rectSum}
-use Rattle.geometry.specs.Layout.{sharesSquare, shapesUnder, coverOf, rectsOf, Drawn}
+use Rattle.geometry.specs.Layout.{sharesSquare, shapesUnder, coverOf, rectsOf, Layer}
 use Rattle.geometry.specs.Overlaps.{rectAt, common, overlap, overlapSum}
 use Rattle.geometry.proofs.Overlaps.{one-if-small, overlap-is-area, shares-overlap}
 use Rattle.geometry.proofs.Tables.{rects-next, rects-end}
@@ -81,7 +81,7 @@ cover-next t b total count i v k d s h e c =
           (omega (arith, c, one-if-small (ltb 0 v)));
     }
 
-pub cover-end : (t : List ℕ) (b : Rect) (total count i : ℕ) → Drawn t → CoverSoFar t b total count i → length t ≤ i + 3 →
+pub cover-end : (t : List ℕ) (b : Rect) (total count i : ℕ) → Layer t → CoverSoFar t b total count i → length t ≤ i + 3 →
     _≡_ {A = Cover} (record { area = total; shapes = count }) (coverOf (rectsOf t) b)
 cover-end t b total count i d s h =
     ap₂ {C = Cover} (λ (a n : ℕ). record { area = a; shapes = n })

@@ -17,7 +17,7 @@ middle rs = numbers rs (corners 2 2 6 6)
 
 abbrev pub coverRows : List Row
 coverRows =
-    row "nothing drawn" (middle []) (0 ∷ 0 ∷ [])
+    row "no rectangle" (middle []) (0 ∷ 0 ∷ [])
     ∷ row "touched at its sides" (middle (corners 0 2 2 6 ∷ corners 6 2 8 6 ∷ corners 2 0 6 2 ∷ corners 2 6 6 8 ∷ [])) (0 ∷ 0 ∷ [])
     ∷ row "touched at its corners" (middle (corners 0 0 2 2 ∷ corners 6 0 8 2 ∷ corners 0 6 2 8 ∷ corners 6 6 8 8 ∷ [])) (0 ∷ 0 ∷ [])
     ∷ row "covered entirely" (middle (corners 0 0 8 8 ∷ [])) (16 ∷ 1 ∷ [])

@@ -11,7 +11,7 @@ widest = 1048576
 abbrev pub largest : ℕ
 largest = widest * widest
 
--- how many rectangles may be drawn, and the numbers of so many in a table, four each
+-- how many rectangles a layer may have, and the numbers of so many in a table, four each
 abbrev pub mostRects : ℕ
 mostRects = 1024
 

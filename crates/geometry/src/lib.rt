@@ -1,20 +1,20 @@
 // Rectangles, the covered area of a box and the shapes under it, and what a
 // search for an extreme finds.
 
-ghost use Prim.Native.Nat.{_+_, _*_, _^_, _<_, min, max};
+ghost use Prim.Native.Nat.{_+_, _*_, _^_, _≤_, _<_, min, max};
 ghost use mathlib.Core.Path.{_≡_};
 ghost use lib.ListN.{length};
 ghost use Rattle.geometry.specs.Sizes.{SmallList};
 ghost use Rattle.geometry.specs.Count.{one-if};
-ghost use Rattle.geometry.specs.Layout.{rectsOf, sharesSquare, coverOf, windowBox, Drawn};
+ghost use Rattle.geometry.specs.Layout.{rectsOf, withRect, sharesSquare, coverOf, windowBox, Layer};
 ghost use Rattle.geometry.specs.Overlaps.{rectAt, common, overlap};
 ghost use Rattle.geometry.specs.Extreme.{better, replaced};
 
-// How many rectangles may be drawn.
+// How many rectangles a layer may have.
 pub const MOST_RECTS: usize = 1024;
 
-// The unit squares from x1 to before x2 and from y1 to before y2: a drawn
-// rectangle, a window, a tile.
+// The unit squares from x1 to before x2 and from y1 to before y2: a
+// rectangle of metal, a window, a tile.
 pub struct Rect {
     pub x1: u64,
     pub y1: u64,
@@ -22,7 +22,7 @@ pub struct Rect {
     pub y2: u64,
 }
 
-// What is drawn in a box: the covered area, and how many rectangles share a unit
+// The metal in a box: the covered area, and how many rectangles share a unit
 // square with it.
 pub struct Cover {
     pub area: u64,
@@ -94,9 +94,21 @@ pub fn window_box(w: u64, x: u64, y: u64) -> Rect
     }
 }
 
+// Stores a rectangle behind so many of a table.
+pub fn store_rect(table: &mut [u64], count: usize, r: Rect)
+    requires { ⌜ 4 * count + 4 ≤ length (now table) ⌝ }
+    ensures { λ _. ⌜ now (table .exit) ≡ withRect (now (table .entry)) count r ⌝ }
+{
+    let at = 4 * count;
+    table[at] = r.x1;
+    table[at + 1] = r.y1;
+    table[at + 2] = r.x2;
+    table[at + 3] = r.y2;
+}
+
 // The area of a box and the shapes under it.
 pub fn cover_of(rects: &[u64], b: Rect) -> Cover
-    requires { ⌜ Drawn (now rects) ⌝ }
+    requires { ⌜ Layer (now rects) ⌝ }
     ensures { λ r. ⌜ r ≡ coverOf (rectsOf (now (rects .entry))) b ⌝ }
 {
     let mut area: u64 = 0;
@@ -111,10 +123,10 @@ pub fn cover_of(rects: &[u64], b: Rect) -> Cover
     Cover { area, shapes }
 }
 
-// Whether a box shares a unit square with a drawn rectangle. Shared edges and
+// Whether a box shares a unit square with a rectangle. Shared edges and
 // corners are none.
 pub fn shares_square(rects: &[u64], b: Rect) -> bool
-    requires { ⌜ Drawn (now rects) ⌝ }
+    requires { ⌜ Layer (now rects) ⌝ }
     ensures { λ r. ⌜ r ≡ sharesSquare (rectsOf (now (rects .entry))) b ⌝ }
 {
     let cover = cover_of(rects, b);

@@ -5,45 +5,33 @@ use mathlib.Core.List.{List}
 use mathlib.Core.Logic.{_⊎_, inl, inr}
 use native.Mathlib.Nat.{le-trans, div-add-mod', mod-lt, div-lt-iff-lt-mul}
 use native.Mathlib.Omega.{arith}
-use lib.Dec.{lit≤}
-use lib.ListN.{length, getD, take, replicate, List·getD-eq-default}
+use lib.ListN.{length, getD, take, replicate, length-map, List·getD-eq-default}
 use lib.Seq.{take-at}
 use Rattle.laws.proofs.Tests.{le-or-lt}
-use Rattle.geometry.specs.declared.Rect.{Rect}
-use Rattle.geometry.specs.Layout.{Disjoint, Drawn}
-use Rattle.fill.specs.Eligible.{tile, fillableArea}
+use Rattle.geometry.specs.Layout.{Layer}
 use Rattle.fill.specs.Judge.{numberAt}
 use Rattle.fill.proofs.Loads.{tile-fillable}
-use Rattle.jobfile.specs.declared.Head.{Head}
 use Rattle.jobfile.specs.declared.Form.{Form}
 use Rattle.jobfile.specs.declared.Turn.the-variants.{Before}
 use Rattle.jobfile.specs.Limits.{unitLimits}
+use Rattle.jobfile.specs.Shapes.{rectangles, keepouts}
 use Rattle.jobfile.specs.Forms.{tileSide, tilesAcross}
-use Rattle.jobfile.specs.Faults.{Standing}
+use Rattle.jobfile.specs.Faults.{Standing, roomOf}
 use Rattle.jobfile.specs.File.{accepted, outcomeOf}
 use Rattle.jobfile.specs.Acceptance.{Good, none, next}
-use Rattle.jobfile.specs.Held.{shapesRoom, tileCount, GoodShapes, Sound, tableOf, padded}
+use Rattle.jobfile.specs.Held.{tileCount, Sound, tableOf, padded}
 use Rattle.jobfile.proofs.Heads.{HeadFacts, head-facts, positive}
-use Rattle.jobfile.proofs.Tables.{length-table, rects-of-table, table-small}
+use Rattle.jobfile.proofs.Tables.{table-layer}
 use Rattle.jobfile.proofs.Sound.{sound-after, sound-start}
 use Rattle.jobfile.proofs.Files.{acceptance}
 
 pub record AcceptedFacts (st : Standing) : Type 0 where
   pub head : HeadFacts (st .head)
   pub few : length (st .shapes) ≤ unitLimits .shapes
-  pub drawn : Drawn (tableOf (st .shapes))
+  pub layer : Layer (tableOf (rectangles (st .shapes)))
   pub sized : length (st .amounts) ≡ tileCount (st .head)
   pub fillable : (i j : ℕ) → i < tilesAcross (st .head) → j < tilesAcross (st .head) →
-      numberAt (st .amounts) (tilesAcross (st .head)) i j ≤ fillableArea (st .head .gap) (st .shapes) (tile (tileSide (st .head)) i j)
-
--- the table of good rectangles is drawn
-table-drawn : (h : Head) (rs : List Rect) → GoodShapes h rs → Disjoint rs → length rs ≤ unitLimits .shapes → Drawn (tableOf rs)
-table-drawn h rs g d l =
-    record {
-      few = omega (arith, length-table rs);
-      small = λ i. le-trans (table-small h rs g i) (lit≤ tt);
-      apart = rw (rects-of-table rs) d;
-    }
+      numberAt (st .amounts) (tilesAcross (st .head)) i j ≤ roomOf st i j
 
 -- good forms keep what is so
 good-sound : {st st′ : Standing} {fs : List Form} → Good unitLimits st fs st′ → Sound st → Sound st′
@@ -58,7 +46,7 @@ accepted-facts file st e =
     record {
       head = head-facts (st .head) (s .headed headed);
       few = s .few;
-      drawn = table-drawn (st .head) (st .shapes) (s .good) (s .apart) (s .few);
+      layer = table-layer (st .head) (rectangles (st .shapes)) (s .good) (s .apart) (omega (arith, length-map (st .shapes) (λ t. t .rect), s .few));
       sized = s .sized;
       fillable = s .fillable;
     }
@@ -73,9 +61,6 @@ accepted-facts file st e =
 
 pub padded-front : (n : ℕ) (s : List ℕ) → take (length s) (padded n s) ≡ s
 padded-front n s = take-at s (replicate (n - length s) 0) (length s) refl
-
-pub table-front : (rs : List Rect) → take (4 * length rs) (padded shapesRoom (tableOf rs)) ≡ tableOf rs
-table-front rs = take-at (tableOf rs) (replicate (shapesRoom - length (tableOf rs)) 0) (4 * length rs) (length-table rs)
 
 -- ---- an amount is at most its tile's area
 
@@ -98,5 +83,5 @@ amount-room st f i = go (le-or-lt (length (st .amounts)) i)
         let column : i % t < t = mod-lt i (some within) in
         let row : i / t < t = div-lt-iff-lt-mul (some within) .1 within in
         let place : i / t * t + i % t ≡ i = div-add-mod' i t in
-        le-trans (subst (λ (n : ℕ). getD (st .amounts) n 0 ≤ fillableArea (st .head .gap) (st .shapes) (tile d (i % t) (i / t))) place (f .fillable (i % t) (i / t) column row))
-        (tile-fillable (st .head .gap) (st .shapes) d (i % t) (i / t))
+        le-trans (subst (λ (n : ℕ). getD (st .amounts) n 0 ≤ roomOf st (i % t) (i / t)) place (f .fillable (i % t) (i / t) column row))
+        (tile-fillable (keepouts (st .head .gap) (st .shapes)) d (i % t) (i / t))

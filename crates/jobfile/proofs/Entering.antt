@@ -1,36 +1,40 @@
 -- A good line entered into the state and its tables: what they hold then is what stands after it.
 use Prim.Native.Nat.{ℕ, suc, _+_, _-_, _*_, _≤_, _<_}
-use mathlib.Core.Path.{_≡_, refl, sym, ap, _∙_, subst}
+use mathlib.Core.Path.{_≡_, refl, sym, ap, ap₂, _∙_, subst}
 use mathlib.Core.Bool.{true, false≢true}
-use mathlib.Core.List.{List, []}
-use native.Mathlib.Nat.{mul-le-mul, lt-of-lt-of-le}
+use mathlib.Core.List.{List, [], _∷_, _++_}
+use native.Mathlib.Nat.{mul-le-mul, lt-of-lt-of-le, le-trans}
 use native.Mathlib.Numerals.{add-one}
 use native.Mathlib.Omega.{arith}
 use lib.Dec.{lit<, lit≤}
 use lib.Arith.{digits-lt}
-use lib.ListN.{length, take, drop, set, length-set}
-use lib.Seq.{take-set-lt, drop-set-lt, length-take-le}
-use Rattle.geometry.specs.declared.Rect.{Rect}
-use Rattle.geometry.specs.Layout.{rectsOf}
-use Rattle.geometry.proofs.Tables.{rects-length}
+use lib.ListN.{length, take, drop, set, length-append, length-set}
+use lib.Seq.{take-set-lt, drop-set-lt}
+use Rattle.geometry.specs.Layout.{rectsOf, withRect}
+use Rattle.geometry.proofs.Tables.{stored-length}
 use Rattle.fill.specs.Judge.{tileIndex}
+use Rattle.fill.specs.Free.{regionOf}
 use Rattle.jobfile.specs.declared.Head.{Head}
 use Rattle.jobfile.specs.declared.Near.{Near}
 use Rattle.jobfile.specs.declared.Near.the-variants.{NoRow}
+use Rattle.jobfile.specs.declared.Shape.{Shape}
 use Rattle.jobfile.specs.declared.State.{State}
 use Rattle.jobfile.specs.declared.Form.{Form}
-use Rattle.jobfile.specs.declared.Form.the-variants.{Unknown, Heading, Shape, Fill, End}
+use Rattle.jobfile.specs.declared.Form.the-variants.{Unknown, Heading, Metal, Fill, End}
 use Rattle.jobfile.specs.declared.Turn.{Turn}
 use Rattle.jobfile.specs.declared.Turn.the-variants.{Before, Shapes, Fills, Done}
 use Rattle.jobfile.specs.Limits.{unitLimits}
+use Rattle.jobfile.specs.Shapes.{keepoutOf}
 use Rattle.jobfile.specs.Forms.{tilesAcross, agrees}
-use Rattle.jobfile.specs.Faults.{Standing, beforeHead, noHead, inTurn, lineFault, standsAfter}
-use Rattle.jobfile.specs.Held.{shapesRoom, amountsRoom, tileCount, standing, GoodHead, Sound, Held, TileIn, NearHeld, RowAsked, withShape, Entered}
-use Rattle.jobfile.proofs.Heads.{agreement}
-use Rattle.jobfile.proofs.Tables.{stored-rects, stored-behind, stored-length, zeros, take-zeros, drop-zeros, zeros-later}
+use Rattle.jobfile.specs.Faults.{Standing, beforeHead, noHead, inTurn, roomOf, lineFault, standsAfter}
+use Rattle.jobfile.specs.Held.{cornersRoom, shapesRoom, amountsRoom, tileCount, shapesBy, shapesIn, tableOf, shapesTable, standing, GoodHead, Sound}
+use Rattle.jobfile.specs.Held.{ShapesKept, AmountsKept, Held, Storable, withShape, Stored, TileIn, NearHeld, RegionsHeld, Entered}
+use Rattle.jobfile.proofs.Heads.{HeadFacts, head-facts, agreement}
+use Rattle.jobfile.proofs.Tables.{Corners, corners, zeros, take-zeros, drop-zeros}
+use Rattle.jobfile.proofs.ShapeTables.{table-length, in-table, stored-table, regions-more}
 use Rattle.jobfile.proofs.Faultless.{check-passes, NoFault, no-fault, no-shape-fault, NoFillFault, no-fill-fault}
 use Rattle.jobfile.proofs.Sound.{after-head, sound-after}
-use Rattle.jobfile.proofs.Faulting.{shapes-held}
+use Rattle.jobfile.proofs.Faulting.{regions-held}
 
 heading-turn : (t : Turn) (h : Head) → inTurn t (Heading h) ≡ true → t ≡ Before
 heading-turn Before h e = refl
@@ -45,182 +49,202 @@ few-across h e = agreement unitLimits h e .few
 pub few-tiles : (h : Head) → agrees unitLimits h ≡ true → tileCount h ≤ amountsRoom
 few-tiles h e = mul-le-mul (few-across h e) (few-across h e)
 
--- a state and its tables hold as many rectangles as the state counts
-pub held-count : (s : State) (rects amounts : List ℕ) → Held s rects amounts → length (rectsOf (take (4 * s .count) rects)) ≡ s .count
-held-count s rects amounts k =
-    rects-length (s .count) (take (4 * s .count) rects) (length-take-le (4 * s .count) rects (omega (arith, k .room, k .count)))
-
--- before the head both tables are all 0
-record Empty (s : State) (rects amounts : List ℕ) : Type 0 where
-  pub rects-zero : rects ≡ zeros shapesRoom
+-- before the head the tables are all 0
+record Empty (shapes regions amounts : List ℕ) : Type 0 where
+  pub shapes-zero : shapes ≡ zeros shapesRoom
   pub amounts-zero : amounts ≡ zeros amountsRoom
 
-empty-before : (s : State) (rects amounts : List ℕ) → Held s rects amounts → s .turn ≡ Before → Empty s rects amounts
-unfolding rectsOf
-empty-before s rects amounts k e =
+empty-before : (s : State) (shapes regions amounts : List ℕ) → Held s shapes regions amounts → s .turn ≡ Before → Empty shapes regions amounts
+unfolding tableOf
+empty-before s shapes regions amounts k e =
     record {
-      rects-zero = subst (λ (n : ℕ). drop (4 * n) rects ≡ zeros (shapesRoom - 4 * n)) none (k .behind);
-      amounts-zero = subst (λ (h : Head). drop (tileCount h) amounts ≡ zeros (amountsRoom - tileCount h)) bare (k .beyond);
+      shapes-zero = k .shaped .table ∙ ap shapesTable (ap (λ (st : Standing). st .shapes) empty);
+      amounts-zero = subst (λ (h : Head). drop (tileCount h) amounts ≡ zeros (amountsRoom - tileCount h)) bare (k .filled .beyond);
     }
   where
-    empty : standing s rects amounts ≡ beforeHead
+    empty : standing s shapes amounts ≡ beforeHead
     empty = k .sound .start e
-
-    none : s .count ≡ 0
-    none = sym (held-count s rects amounts k) ∙ ap (λ (st : Standing). length (st .shapes)) empty
 
     bare : s .head ≡ noHead
     bare = ap (λ (st : Standing). st .head) empty
 
 -- the state and its tables hold a line's outcome where the tables are clean and what stands is what stands after the line
-entered : (s : State) (rects amounts : List ℕ) (f : Form) (s′ : State) (rects′ amounts′ : List ℕ) → Held s rects amounts →
-    lineFault unitLimits (standing s rects amounts) f ≡ 0 → standing s′ rects′ amounts′ ≡ standsAfter (standing s rects amounts) f →
-    (Sound (standing s′ rects′ amounts′) → Held s′ rects′ amounts′) → Entered s rects amounts f s′ rects′ amounts′
-entered s rects amounts f s′ rects′ amounts′ k e same held =
-    record { stands = same; held = held (rw same (sound-after (standing s rects amounts) f (k .sound) e)) }
+entered : (s : State) (shapes regions amounts : List ℕ) (f : Form) (s′ : State) (shapes′ regions′ amounts′ : List ℕ) → Held s shapes regions amounts →
+    lineFault unitLimits (standing s shapes amounts) f ≡ 0 → standing s′ shapes′ amounts′ ≡ standsAfter (standing s shapes amounts) f →
+    ShapesKept (s′ .head) (s′ .count) shapes′ regions′ → AmountsKept (s′ .head) amounts′ → NearHeld (s′ .head) (take (4 * s′ .count) regions′) (s′ .near) →
+    Entered s shapes amounts f s′ shapes′ regions′ amounts′
+entered s shapes regions amounts f s′ shapes′ regions′ amounts′ k e same shaped filled near =
+    record {
+      stands = same;
+      held = record { shaped = shaped; filled = filled; sound = rw same (sound-after (standing s shapes amounts) f (k .sound) e); near = near };
+    }
 
-module _ (s : State) (rects amounts : List ℕ) (k : Held s rects amounts) where
-  on-heading : (h : Head) → lineFault unitLimits (standing s rects amounts) (Heading h) ≡ 0 →
-      Entered s rects amounts (Heading h) (record { turn = Shapes; head = h; count = 0; near = NoRow }) rects amounts
-  unfolding standsAfter rectsOf
+module _ (s : State) (shapes regions amounts : List ℕ) (k : Held s shapes regions amounts) where
+  on-heading : (h : Head) → lineFault unitLimits (standing s shapes amounts) (Heading h) ≡ 0 →
+      Entered s shapes amounts (Heading h) (record { turn = Shapes; head = h; count = 0; near = NoRow }) shapes regions amounts
+  unfolding standsAfter rectsOf shapesBy tableOf
   on-heading h e =
-      entered s rects amounts (Heading h) (record { turn = Shapes; head = h; count = 0; near = NoRow }) rects amounts k e
+      entered s shapes regions amounts (Heading h) (record { turn = Shapes; head = h; count = 0; near = NoRow }) shapes regions amounts k e
       (ap (λ (l : List ℕ). record { turn = Shapes; head = h; shapes = []; amounts = l }) clean)
-      (λ sound.
-      record {
-        room = k .room;
-        amounts-room = k .amounts-room;
-        count = lit≤ tt;
+      (record { table = z .shapes-zero; counted = refl; few = lit≤ tt; room = k .shaped .room; kept = refl })
+      (record {
+        room = k .filled .room;
         tiles = few;
-        behind = z .rects-zero;
         beyond = ap (drop (tileCount h)) (z .amounts-zero) ∙ drop-zeros (tileCount h) amountsRoom;
-        sound = sound;
-        near = tt;
       })
+      tt
     where
-      g : NoFault unitLimits (standing s rects amounts) (Heading h)
-      g = no-fault unitLimits (standing s rects amounts) (Heading h) e
+      g : NoFault unitLimits (standing s shapes amounts) (Heading h)
+      g = no-fault unitLimits (standing s shapes amounts) (Heading h) e
 
       few : tileCount h ≤ amountsRoom
       few = few-tiles h (check-passes (agrees unitLimits h) 5 0 (lit< tt) (g .own) .0)
 
-      z : Empty s rects amounts
-      z = empty-before s rects amounts k (heading-turn (s .turn) h (g .turn))
+      z : Empty shapes regions amounts
+      z = empty-before s shapes regions amounts k (heading-turn (s .turn) h (g .turn))
 
       clean : take (tileCount h) amounts ≡ zeros (tileCount h)
       clean = ap (take (tileCount h)) (z .amounts-zero) ∙ take-zeros (tileCount h) amountsRoom few
 
-  shape-room : (r : Rect) → lineFault unitLimits (standing s rects amounts) (Shape r) ≡ 0 → s .count < unitLimits .shapes
-  shape-room r e =
-      omega (
-        arith,
-        held-count s rects amounts k,
-        no-shape-fault unitLimits (standing s rects amounts) r (no-fault unitLimits (standing s rects amounts) (Shape r) e .own) .room,
-      )
+  -- ---- a shape
 
-  on-shape : (r : Rect) → lineFault unitLimits (standing s rects amounts) (Shape r) ≡ 0 →
-      Entered s rects amounts (Shape r) (record { turn = Shapes; head = s .head; count = s .count + 1; near = NoRow }) (withShape rects (s .count) r) amounts
-  unfolding standsAfter
-  on-shape r e =
-      entered s rects amounts (Shape r) (record { turn = Shapes; head = s .head; count = s .count + 1; near = NoRow }) (withShape rects (s .count) r) amounts k e
-      (ap (λ (rs : List Rect). record { turn = Shapes; head = s .head; shapes = rs; amounts = take (tileCount (s .head)) amounts })
-      (rw (add-one (s .count)) (stored-rects rects (s .count) r space)))
-      (λ sound.
-      record {
-        room = stored-length rects (s .count) r space ∙ k .room;
-        amounts-room = k .amounts-room;
-        count = omega (arith, shape-room r e);
-        tiles = k .tiles;
-        behind = rw (add-one (s .count)) (stored-behind rects (s .count) r space ∙ later);
-        beyond = k .beyond;
-        sound = sound;
-        near = tt;
-      })
-    where
-      space : 4 * s .count + 4 ≤ length rects
-      space = omega (arith, shape-room r e, k .room)
+  module _ (m : Shape) (e : lineFault unitLimits (standing s shapes amounts) (Metal m) ≡ 0) where
+    abbrev before : List Shape
+    before = shapesIn (s .count) shapes
 
-      later : drop (4 * suc (s .count)) rects ≡ zeros (shapesRoom - 4 * suc (s .count))
-      later =
-          let a : 4 * suc (s .count) ≡ 4 * s .count + 4 = omega arith in
-          let b : shapesRoom - 4 * s .count - 4 ≡ shapesRoom - (4 * s .count + 4) = omega arith in
-          rw a (zeros-later rects (4 * s .count) 4 (shapesRoom - 4 * s .count) (k .behind) ∙ ap zeros b)
+    g : NoFault unitLimits (standing s shapes amounts) (Metal m)
+    g = no-fault unitLimits (standing s shapes amounts) (Metal m) e
 
-  fill-good : (i j p : ℕ) → lineFault unitLimits (standing s rects amounts) (Fill i j p) ≡ 0 → NoFillFault (standing s rects amounts) i j p
-  fill-good i j p e = no-fill-fault (standing s rects amounts) i j p (no-fault unitLimits (standing s rects amounts) (Fill i j p) e .own)
+    fewer : length before < unitLimits .shapes
+    fewer = no-shape-fault unitLimits (standing s shapes amounts) (m .rect) (g .own) .room
 
-  on-fill : (i j p : ℕ) (near : Near) → lineFault unitLimits (standing s rects amounts) (Fill i j p) ≡ 0 → NearHeld (s .head) (take (4 * s .count) rects) near →
-      Entered s rects amounts (Fill i j p) (record { turn = Fills; head = s .head; count = s .count; near = near }) rects (set amounts (tileIndex (tilesAcross (s .head)) i j) p)
+    -- the table with the shape is that of all shapes
+    more-table : withShape shapes (s .count) m ≡ shapesTable (before ++ (m ∷ []))
+    more-table =
+        ap₂ (λ (l : List ℕ) (n : ℕ). withShape l n m) (k .shaped .table) (sym (k .shaped .counted)) ∙ stored-table before m fewer
+
+    more-count : s .count + 1 ≡ length (before ++ (m ∷ []))
+    more-count = omega (arith, length-append before (m ∷ []), k .shaped .counted)
+
+    more-shapes : shapesIn (s .count + 1) (withShape shapes (s .count) m) ≡ before ++ (m ∷ [])
+    more-shapes =
+        ap₂ shapesIn more-count more-table
+        ∙ in-table (before ++ (m ∷ [])) (omega (arith, fewer, length-append before (m ∷ [])))
+
+    storable : Storable s m shapes regions
+    storable =
+        record {
+          room = ap length (k .shaped .table) ∙ table-length before (k .sound .few);
+          regions-room = k .shaped .room;
+          more = omega (arith, fewer, k .shaped .counted);
+          small = record {
+            right = le-trans (corners unitLimits (m .rect) (g .range) .right .most) (lit≤ tt);
+            high = le-trans (corners unitLimits (m .rect) (g .range) .high .most) (lit≤ tt);
+            narrow = le-trans (head-facts (s .head) (k .sound .headed headed) .gap-most (m .kind)) (lit≤ tt);
+          };
+        }
+      where
+        headed : s .turn ≡ Before → ⊥
+        headed = after-head (s .turn) (Metal m) (g .turn) (λ h q. let z : _≡_ {A = ℕ} 0 1 = cc in omega arith)
+
+    abbrev regions-with : List ℕ
+    regions-with = withRect regions (s .count) (regionOf (keepoutOf (s .head .gap) m))
+
+    space : 4 * s .count + 4 ≤ length regions
+    space = omega (arith, storable .more, k .shaped .room)
+
+    on-shape : Entered s shapes amounts (Metal m) (record { turn = Shapes; head = s .head; count = s .count + 1; near = NoRow }) (withShape shapes (s .count) m) regions-with amounts
+    unfolding standsAfter
+    on-shape =
+        entered s shapes regions amounts (Metal m) (record { turn = Shapes; head = s .head; count = s .count + 1; near = NoRow }) (withShape shapes (s .count) m) regions-with amounts k e
+        (ap (λ (ss : List Shape). record { turn = Shapes; head = s .head; shapes = ss; amounts = take (tileCount (s .head)) amounts }) more-shapes)
+        (record {
+          table = more-table ∙ ap shapesTable (sym more-shapes);
+          counted = ap length more-shapes ∙ sym more-count;
+          few = omega (arith, storable .more);
+          room = stored-length regions (s .count) (regionOf (keepoutOf (s .head .gap) m)) space ∙ k .shaped .room;
+          kept = rw (more-shapes, add-one (s .count)) (regions-more (s .head .gap) before m regions (s .count) space (k .shaped .kept));
+        })
+        (k .filled) tt
+
+  -- ---- a fill and the end
+
+  fill-good : (i j p : ℕ) → lineFault unitLimits (standing s shapes amounts) (Fill i j p) ≡ 0 →
+      NoFillFault (s .head) (take (tileCount (s .head)) amounts) (roomOf (standing s shapes amounts) i j) i j p
+  fill-good i j p e =
+      no-fill-fault (s .head) (take (tileCount (s .head)) amounts) (roomOf (standing s shapes amounts) i j) i j p
+      (no-fault unitLimits (standing s shapes amounts) (Fill i j p) e .own)
+
+  on-fill : (i j p : ℕ) (near : Near) → lineFault unitLimits (standing s shapes amounts) (Fill i j p) ≡ 0 → NearHeld (s .head) (take (4 * s .count) regions) near →
+      Entered s shapes amounts (Fill i j p) (record { turn = Fills; head = s .head; count = s .count; near = near }) shapes regions
+      (set amounts (tileIndex (tilesAcross (s .head)) i j) p)
   unfolding standsAfter
   on-fill i j p near e served =
-      entered s rects amounts (Fill i j p) (record { turn = Fills; head = s .head; count = s .count; near = near }) rects (set amounts (tileIndex (tilesAcross (s .head)) i j) p) k e
-      (ap (λ (l : List ℕ). record { turn = Fills; head = s .head; shapes = rectsOf (take (4 * s .count) rects); amounts = l })
+      entered s shapes regions amounts (Fill i j p) (record { turn = Fills; head = s .head; count = s .count; near = near }) shapes regions
+      (set amounts (tileIndex (tilesAcross (s .head)) i j) p) k e
+      (ap (λ (l : List ℕ). record { turn = Fills; head = s .head; shapes = shapesIn (s .count) shapes; amounts = l })
       (take-set-lt (tileCount (s .head)) amounts (tileIndex (tilesAcross (s .head)) i j) p place))
-      (λ sound.
-      record {
-        room = k .room;
-        amounts-room = length-set amounts (tileIndex (tilesAcross (s .head)) i j) p ∙ k .amounts-room;
-        count = k .count;
-        tiles = k .tiles;
-        behind = k .behind;
-        beyond = drop-set-lt (tileCount (s .head)) amounts (tileIndex (tilesAcross (s .head)) i j) p place ∙ k .beyond;
-        sound = sound;
-        near = served;
+      (k .shaped)
+      (record {
+        room = length-set amounts (tileIndex (tilesAcross (s .head)) i j) p ∙ k .filled .room;
+        tiles = k .filled .tiles;
+        beyond = drop-set-lt (tileCount (s .head)) amounts (tileIndex (tilesAcross (s .head)) i j) p place ∙ k .filled .beyond;
       })
+      served
     where
       place : tileIndex (tilesAcross (s .head)) i j < tileCount (s .head)
       place = digits-lt (fill-good i j p e .row) (fill-good i j p e .column)
 
-  on-end : lineFault unitLimits (standing s rects amounts) End ≡ 0 →
-      Entered s rects amounts End (record { turn = Done; head = s .head; count = s .count; near = s .near }) rects amounts
+  on-end : lineFault unitLimits (standing s shapes amounts) End ≡ 0 →
+      Entered s shapes amounts End (record { turn = Done; head = s .head; count = s .count; near = s .near }) shapes regions amounts
   unfolding standsAfter
   on-end e =
-      entered s rects amounts End (record { turn = Done; head = s .head; count = s .count; near = s .near }) rects amounts k e refl
-      (λ sound.
-      record { room = k .room; amounts-room = k .amounts-room; count = k .count; tiles = k .tiles; behind = k .behind; beyond = k .beyond; sound = sound; near = k .near })
+      entered s shapes regions amounts End (record { turn = Done; head = s .head; count = s .count; near = s .near }) shapes regions amounts k e refl
+      (k .shaped) (k .filled) (k .near)
 
-  -- by the form of the line, as the code knows it
-  pub enter-unknown : (f : Form) → f ≡ Unknown → lineFault unitLimits (standing s rects amounts) f ≡ 0 → Entered s rects amounts f s rects amounts
-  enter-unknown f q e = absurd (false≢true (no-fault unitLimits (standing s rects amounts) Unknown (rw q at e) .spelled))
+  -- ---- by the form of the line, as the code knows it
 
-  pub enter-heading : (f : Form) (h : Head) → f ≡ Heading h → lineFault unitLimits (standing s rects amounts) f ≡ 0 →
-      Entered s rects amounts f (record { turn = Shapes; head = h; count = 0; near = NoRow }) rects amounts
+  pub enter-unknown : (f : Form) → f ≡ Unknown → lineFault unitLimits (standing s shapes amounts) f ≡ 0 → Entered s shapes amounts f s shapes regions amounts
+  enter-unknown f q e = absurd (false≢true (no-fault unitLimits (standing s shapes amounts) Unknown (rw q at e) .spelled))
+
+  pub enter-heading : (f : Form) (h : Head) → f ≡ Heading h → lineFault unitLimits (standing s shapes amounts) f ≡ 0 →
+      Entered s shapes amounts f (record { turn = Shapes; head = h; count = 0; near = NoRow }) shapes regions amounts
   enter-heading f h q e = rw q (on-heading h (rw q at e))
 
-  pub shape-space : (f : Form) (r : Rect) → f ≡ Shape r → lineFault unitLimits (standing s rects amounts) f ≡ 0 → 4 * s .count + 4 ≤ length rects
-  shape-space f r q e = omega (arith, shape-room r (rw q at e), k .room)
+  pub shape-space : (f : Form) (m : Shape) → f ≡ Metal m → lineFault unitLimits (standing s shapes amounts) f ≡ 0 → Storable s m shapes regions
+  shape-space f m q e = storable m (rw q at e)
 
-  pub enter-shape : (f : Form) (r : Rect) (rects′ : List ℕ) → f ≡ Shape r → lineFault unitLimits (standing s rects amounts) f ≡ 0 →
-      rects′ ≡ withShape rects (s .count) r →
-      Entered s rects amounts f (record { turn = Shapes; head = s .head; count = s .count + 1; near = NoRow }) rects′ amounts
-  enter-shape f r rects′ q e new = rw (q, new) (on-shape r (rw q at e))
+  pub enter-shape : (f : Form) (m : Shape) (shapes′ regions′ : List ℕ) → f ≡ Metal m → lineFault unitLimits (standing s shapes amounts) f ≡ 0 →
+      Stored s m shapes regions shapes′ regions′ →
+      Entered s shapes amounts f (record { turn = Shapes; head = s .head; count = s .count + 1; near = NoRow }) shapes′ regions′ amounts
+  enter-shape f m shapes′ regions′ q e new = rw (q, new .table, new .region) (on-shape m (rw q at e))
 
-  module _ (f : Form) (i j p : ℕ) (q : f ≡ Fill i j p) (e : lineFault unitLimits (standing s rects amounts) f ≡ 0) where
-    good : NoFillFault (standing s rects amounts) i j p
+  module _ (f : Form) (i j p : ℕ) (q : f ≡ Fill i j p) (e : lineFault unitLimits (standing s shapes amounts) f ≡ 0) where
+    good : NoFillFault (s .head) (take (tileCount (s .head)) amounts) (roomOf (standing s shapes amounts) i j) i j p
     good = fill-good i j p (rw q at e)
 
-    head : GoodHead (s .head)
-    head =
-        k .sound .headed
-        (after-head (s .turn) (Fill i j p) (no-fault unitLimits (standing s rects amounts) (Fill i j p) (rw q at e) .turn)
+    pub fill-regions : RegionsHeld s regions
+    fill-regions =
+        regions-held s shapes regions amounts k
+        (after-head (s .turn) (Fill i j p) (no-fault unitLimits (standing s shapes amounts) (Fill i j p) (rw q at e) .turn)
         (λ h n. let z : _≡_ {A = ℕ} 0 1 = cc in omega arith))
 
     pub fill-space : TileIn (s .head) i j × (tileIndex (tilesAcross (s .head)) i j < length amounts)
     fill-space = (
-      record { few = few-across (s .head) (head .agreement); column = good .column; row = good .row },
-      omega (arith, digits-lt (good .row) (good .column), few-tiles (s .head) (head .agreement), k .amounts-room),
+      record { few = few-across (s .head) (fill-regions .head .agreement); column = good .column; row = good .row },
+      omega (arith, digits-lt (good .row) (good .column), k .filled .tiles, k .filled .room),
     )
 
-    pub fill-row-asked : RowAsked s rects j
-    fill-row-asked = record { shapes = shapes-held s rects amounts k; head = head; inside = good .row; near = k .near }
+    pub fill-row-asked : RegionsHeld s regions × (j < tilesAcross (s .head))
+    fill-row-asked = (fill-regions, good .row)
 
-  pub enter-fill : (f : Form) (i j p : ℕ) (amounts′ : List ℕ) (near : Near) → f ≡ Fill i j p → lineFault unitLimits (standing s rects amounts) f ≡ 0 →
-      amounts′ ≡ set amounts (tileIndex (tilesAcross (s .head)) i j) p → NearHeld (s .head) (take (4 * s .count) rects) near →
-      Entered s rects amounts f (record { turn = Fills; head = s .head; count = s .count; near = near }) rects amounts′
+  pub enter-fill : (f : Form) (i j p : ℕ) (amounts′ : List ℕ) (near : Near) → f ≡ Fill i j p → lineFault unitLimits (standing s shapes amounts) f ≡ 0 →
+      amounts′ ≡ set amounts (tileIndex (tilesAcross (s .head)) i j) p → NearHeld (s .head) (take (4 * s .count) regions) near →
+      Entered s shapes amounts f (record { turn = Fills; head = s .head; count = s .count; near = near }) shapes regions amounts′
   enter-fill f i j p amounts′ near q e new served = rw (q, new) (on-fill i j p near (rw q at e) served)
 
-  pub enter-end : (f : Form) → f ≡ End → lineFault unitLimits (standing s rects amounts) f ≡ 0 →
-      Entered s rects amounts f (record { turn = Done; head = s .head; count = s .count; near = s .near }) rects amounts
+  pub enter-end : (f : Form) → f ≡ End → lineFault unitLimits (standing s shapes amounts) f ≡ 0 →
+      Entered s shapes amounts f (record { turn = Done; head = s .head; count = s .count; near = s .near }) shapes regions amounts
   enter-end f q e = rw q (on-end (rw q at e))
 
 -- the place of a tile in its table fits the code's numbers

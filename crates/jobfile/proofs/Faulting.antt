@@ -1,33 +1,38 @@
 -- The faults of a line, test by test, as the code finds them.
 use Prim.Native.Nat.{ℕ, suc, _*_, _≤_, _<_}
-use mathlib.Core.Path.{_≡_, sym, ap, _∙_}
+use mathlib.Core.Path.{_≡_, sym, ap, ap₂, _∙_}
 use mathlib.Core.Bool.{Bool, true, false}
 use mathlib.Core.List.{List, []}
 use native.Mathlib.Nat.{le-trans, lt-of-lt-of-le}
 use native.Mathlib.Omega.{arith}
 use lib.Arith.{digits-lt}
 use lib.Dec.{leb, ltb, eqb, lit≤}
-use lib.ListN.{length, getD, take}
+use lib.ListN.{length, getD, take, drop, length-map}
 use lib.Seq.{length-take-le, getD-take}
 use borrow.Author.Tests.{lt-ltb, le-ltb, le-leb, lt-leb, eq-eqb, ne-eqb}
 use Rattle.geometry.specs.declared.Rect.{Rect}
 use Rattle.geometry.specs.Sizes.{widest}
 use Rattle.geometry.specs.Layout.{rectsOf, sharesSquare}
-use Rattle.fill.specs.Eligible.{tile, fillableArea}
+use Rattle.geometry.proofs.Tables.{rects-length}
+use Rattle.fill.specs.Eligible.{tile}
 use Rattle.fill.specs.Judge.{tileIndex, numberAt}
 use Rattle.fill.specs.Sizes.{SmallBox}
+use Rattle.fill.proofs.Grown.{regions-fillable}
 use Rattle.jobfile.specs.declared.Head.{Head}
 use Rattle.jobfile.specs.declared.Form.{Form}
-use Rattle.jobfile.specs.declared.Form.the-variants.{Unknown, Heading, Shape, Fill, End}
+use Rattle.jobfile.specs.declared.Form.the-variants.{Unknown, Heading, Metal, Fill, End}
+use Rattle.jobfile.specs.declared.Shape.{Shape}
 use Rattle.jobfile.specs.declared.State.{State}
 use Rattle.jobfile.specs.declared.Turn.{Turn}
 use Rattle.jobfile.specs.declared.Turn.the-variants.{Before, Shapes, Fills}
 use Rattle.jobfile.specs.Limits.{unitLimits}
+use Rattle.jobfile.specs.Shapes.{rectangles, keepouts}
 use Rattle.jobfile.specs.Forms.{inRange, tileSide, tilesAcross, agrees}
 use Rattle.jobfile.specs.Faults.{Standing, rankOf, known, inTurn, check, fitsLayout, shapeFault, fillFault, ownFault, lineFault}
-use Rattle.jobfile.specs.Held.{amountsRoom, tileCount, standing, GoodHead, Held, ShapesHeld, TileIn, TileAsked}
-use Rattle.geometry.proofs.Tables.{rects-length}
-use Rattle.jobfile.proofs.Tables.{drawn-so-far}
+use Rattle.jobfile.specs.Held.{cornersRoom, shapesRoom, amountsRoom, tileCount, shapesIn, standing, tableOf}
+use Rattle.jobfile.specs.Held.{GoodHead, AmountsKept, Held, ShapesHeld, TileIn, RegionsHeld, freeRoom}
+use Rattle.jobfile.proofs.ShapeTables.{rects-by, by-length, table-corners, table-length}
+use Rattle.jobfile.proofs.Tables.{table-layer}
 use Rattle.jobfile.proofs.Heads.{HeadFacts, head-facts, tile-end}
 use Rattle.jobfile.proofs.Sound.{after-head}
 
@@ -75,114 +80,132 @@ module _ (st : Standing) (f : Form) where
       unfolding lineFault
       line-own r n a b e = rw (← a₁, b₁, ← a₂, b₂, ← a, b) e
 
--- ---- a rectangle
+-- ---- a shape
 
-module _ (s : State) (rects : List ℕ) (r : Rect) (whole : 4 * s .count ≤ length rects) where
-  counted : length (rectsOf (take (4 * s .count) rects)) ≡ s .count
-  counted = rects-length (s .count) (take (4 * s .count) rects) (length-take-le (4 * s .count) rects whole)
+module _ (s : State) (shapes : List ℕ) (r : Rect) (whole : 4 * s .count ≤ length shapes) where
+  counted : length (shapesIn (s .count) shapes) ≡ s .count
+  counted =
+      by-length (rectsOf (take (4 * s .count) shapes)) (drop cornersRoom shapes)
+      ∙ rects-length (s .count) (take (4 * s .count) shapes) (length-take-le (4 * s .count) shapes whole)
 
-  pub shape-outside : (t : Bool) → t ≡ fitsLayout (s .head) r → t ≡ false → 6 ≡ shapeFault unitLimits (standing s rects []) r
+  pub shape-outside : (t : Bool) → t ≡ fitsLayout (s .head) r → t ≡ false → 6 ≡ shapeFault unitLimits (standing s shapes []) r
   unfolding shapeFault
   shape-outside t a b = rw (← a, b)
 
   module _ (t : Bool) (a : t ≡ fitsLayout (s .head) r) (b : t ≡ true) where
-    pub shape-many : unitLimits .shapes ≤ s .count → 8 ≡ shapeFault unitLimits (standing s rects []) r
+    pub shape-many : unitLimits .shapes ≤ s .count → 8 ≡ shapeFault unitLimits (standing s shapes []) r
     unfolding shapeFault
     shape-many h = rw (← a, b, counted, le-ltb (s .count) (unitLimits .shapes) h)
 
-    pub shape-shared : (u : Bool) → s .count < unitLimits .shapes → u ≡ sharesSquare (rectsOf (take (4 * s .count) rects)) r → u ≡ true →
-        9 ≡ shapeFault unitLimits (standing s rects []) r
-    unfolding shapeFault
-    shape-shared u h p q = rw (← a, b, counted, lt-ltb (s .count) (unitLimits .shapes) h, ← p, q)
+    module _ (u : Bool) (h : s .count < unitLimits .shapes) (p : u ≡ sharesSquare (rectsOf (take (4 * s .count) shapes)) r) where
+      shared : u ≡ sharesSquare (rectangles (shapesIn (s .count) shapes)) r
+      shared = p ∙ ap (λ (rs : List Rect). sharesSquare rs r) (sym (rects-by (rectsOf (take (4 * s .count) shapes)) (drop cornersRoom shapes)))
 
-    pub shape-right : (u : Bool) → s .count < unitLimits .shapes → u ≡ sharesSquare (rectsOf (take (4 * s .count) rects)) r → u ≡ false →
-        0 ≡ shapeFault unitLimits (standing s rects []) r
-    unfolding shapeFault
-    shape-right u h p q = rw (← a, b, counted, lt-ltb (s .count) (unitLimits .shapes) h, ← p, q)
+      pub shape-shared : u ≡ true → 9 ≡ shapeFault unitLimits (standing s shapes []) r
+      unfolding shapeFault
+      shape-shared q = rw (← a, b, counted, lt-ltb (s .count) (unitLimits .shapes) h, ← shared, q)
+
+      pub shape-right : u ≡ false → 0 ≡ shapeFault unitLimits (standing s shapes []) r
+      unfolding shapeFault
+      shape-right q = rw (← a, b, counted, lt-ltb (s .count) (unitLimits .shapes) h, ← shared, q)
 
 -- ---- a fill
 
-module _ (s : State) (rects amounts : List ℕ) (i j p t : ℕ) (e : t ≡ tilesAcross (s .head)) where
-  pub fill-column : t ≤ i → 7 ≡ fillFault (standing s rects amounts) i j p
+module _ (h : Head) (amounts : List ℕ) (i j p t : ℕ) (e : t ≡ tilesAcross h) where
+  pub fill-column : (room : ℕ) → t ≤ i → 7 ≡ fillFault h (take (tileCount h) amounts) room i j p
   unfolding fillFault
-  fill-column h = rw (← e, le-ltb i t h)
+  fill-column room n = rw (← e, le-ltb i t n)
 
   module _ (hi : i < t) where
-    pub fill-row : t ≤ j → 7 ≡ fillFault (standing s rects amounts) i j p
+    pub fill-row : (room : ℕ) → t ≤ j → 7 ≡ fillFault h (take (tileCount h) amounts) room i j p
     unfolding fillFault
-    fill-row h = rw (← e, lt-ltb i t hi, le-ltb j t h)
+    fill-row room n = rw (← e, lt-ltb i t hi, le-ltb j t n)
 
-    module _ (hj : j < t) (at : ℕ) (place : at ≡ tileIndex (tilesAcross (s .head)) i j) where
-      inside : tileIndex (tilesAcross (s .head)) i j < tileCount (s .head)
+    module _ (hj : j < t) (at : ℕ) (place : at ≡ tileIndex (tilesAcross h) i j) where
+      inside : tileIndex (tilesAcross h) i j < tileCount h
       inside = rw (← e) (digits-lt hj hi)
 
-      stands : numberAt (take (tileCount (s .head)) amounts) (tilesAcross (s .head)) i j ≡ getD amounts at 0
-      stands = getD-take (tileCount (s .head)) amounts (tileIndex (tilesAcross (s .head)) i j) 0 inside ∙ ap (λ (k : ℕ). getD amounts k 0) (sym place)
+      stands : numberAt (take (tileCount h) amounts) (tilesAcross h) i j ≡ getD amounts at 0
+      stands = getD-take (tileCount h) amounts (tileIndex (tilesAcross h) i j) 0 inside ∙ ap (λ (k : ℕ). getD amounts k 0) (sym place)
 
-      pub fill-taken : (getD amounts at 0 ≡ 0 → ⊥) → 10 ≡ fillFault (standing s rects amounts) i j p
+      pub fill-taken : (room : ℕ) → (getD amounts at 0 ≡ 0 → ⊥) → 10 ≡ fillFault h (take (tileCount h) amounts) room i j p
       unfolding fillFault
-      fill-taken n = rw (← e, lt-ltb i t hi, lt-ltb j t hj, e, stands, ne-eqb (getD amounts at 0) 0 n)
+      fill-taken room n = rw (← e, lt-ltb i t hi, lt-ltb j t hj, e, stands, ne-eqb (getD amounts at 0) 0 n)
 
-      module _ (free : getD amounts at 0 ≡ 0) (room : ℕ)
-          (area : room ≡ fillableArea (s .head .gap) (rectsOf (take (4 * s .count) rects)) (tile (tileSide (s .head)) i j)) where
-        pub fill-over : room < p → 11 ≡ fillFault (standing s rects amounts) i j p
+      module _ (free : getD amounts at 0 ≡ 0) (found room : ℕ) (area : found ≡ room) where
+        pub fill-over : found < p → 11 ≡ fillFault h (take (tileCount h) amounts) room i j p
         unfolding fillFault
-        fill-over h = rw (← e, lt-ltb i t hi, lt-ltb j t hj, e, stands, eq-eqb (getD amounts at 0) 0 free, ← area, lt-leb p room h)
+        fill-over n = rw (← e, lt-ltb i t hi, lt-ltb j t hj, e, stands, eq-eqb (getD amounts at 0) 0 free, ← area, lt-leb p found n)
 
-        pub fill-right : p ≤ room → 0 ≡ fillFault (standing s rects amounts) i j p
+        pub fill-right : p ≤ found → 0 ≡ fillFault h (take (tileCount h) amounts) room i j p
         unfolding fillFault
-        fill-right h = rw (← e, lt-ltb i t hi, lt-ltb j t hj, e, stands, eq-eqb (getD amounts at 0) 0 free, ← area, le-leb p room h)
-
--- the rectangles so far are in the table and drawn
-pub shapes-held : (s : State) (rects amounts : List ℕ) → Held s rects amounts → ShapesHeld s rects
-shapes-held s rects amounts k =
-    record {
-      within = omega (arith, k .room, k .count);
-      drawn = drawn-so-far (s .head) rects (s .count) (omega (arith, k .count)) (k .room) (k .sound .good) (k .sound .apart);
-    }
+        fill-right n = rw (← e, lt-ltb i t hi, lt-ltb j t hj, e, stands, eq-eqb (getD amounts at 0) 0 free, ← area, le-leb p found n)
 
 -- the place of a tile is in the table of amounts
-pub tile-in-table : (s : State) (rects amounts : List ℕ) (i j t at : ℕ) → Held s rects amounts → t ≡ tilesAcross (s .head) → i < t → j < t →
-    at ≡ tileIndex (tilesAcross (s .head)) i j → at < amountsRoom
-tile-in-table s rects amounts i j t at k e hi hj place = rw place (lt-of-lt-of-le (rw (← e) (digits-lt hj hi)) (k .tiles))
+pub tile-in-table : (h : Head) (amounts : List ℕ) (i j t at : ℕ) → AmountsKept h amounts → t ≡ tilesAcross h → i < t → j < t →
+    at ≡ tileIndex (tilesAcross h) i j → at < amountsRoom
+tile-in-table h amounts i j t at k e hi hj place = rw place (lt-of-lt-of-le (rw (← e) (digits-lt hj hi)) (k .tiles))
 
--- what the fillable area of a tile asks of the table and the tile's box
-pub tile-asked-small : (s : State) (rects : List ℕ) (i j : ℕ) (b : Rect) → TileAsked s rects i j → b ≡ tile (tileSide (s .head)) i j →
-    SmallBox (take (4 * s .count) rects) (s .head .gap) b
-tile-asked-small s rects i j b k e =
+-- what the fillable area of a tile asks of the tile's box
+pub tile-small : (h : Head) (i j : ℕ) (b : Rect) → GoodHead h → TileIn h i j → b ≡ tile (tileSide h) i j → SmallBox b
+tile-small h i j b g k e =
     rw e
     (record {
-      numbers = k .shapes .drawn .small;
-      narrow = le-trans (f .gap-most) (lit≤ tt);
-      right = le-trans (tile-end (s .head) i f (k .tile .column)) (lit≤ tt);
-      high = le-trans (tile-end (s .head) j f (k .tile .row)) (lit≤ tt);
+      right = le-trans (tile-end h i (head-facts h g) (k .column)) (lit≤ tt);
+      high = le-trans (tile-end h j (head-facts h g) (k .row)) (lit≤ tt);
     })
+
+-- the shapes so far are in their tables
+pub shapes-held : (s : State) (shapes regions amounts : List ℕ) → Held s shapes regions amounts → ShapesHeld s shapes
+shapes-held s shapes regions amounts k =
+    record {
+      within = omega (arith, k .shaped .few, long);
+      layer = rw front (table-layer (s .head) (rectangles ss) (k .sound .good) (k .sound .apart) (omega (arith, length-map ss (λ t. t .rect), k .sound .few)));
+    }
   where
-    f : HeadFacts (s .head)
-    f = head-facts (s .head) (k .head)
+    ss : List Shape
+    ss = shapesIn (s .count) shapes
+
+    long : length shapes ≡ shapesRoom
+    long = ap length (k .shaped .table) ∙ table-length (shapesIn (s .count) shapes) (k .sound .few)
+
+    front : take (4 * s .count) shapes ≡ tableOf (rectangles (shapesIn (s .count) shapes))
+    front =
+        ap₂ (λ (n : ℕ) (l : List ℕ). take (4 * n) l) (sym (k .shaped .counted)) (k .shaped .table) ∙ table-corners (shapesIn (s .count) shapes)
+
+pub regions-held : (s : State) (shapes regions amounts : List ℕ) → Held s shapes regions amounts → (s .turn ≡ Before → ⊥) → RegionsHeld s regions
+regions-held s shapes regions amounts k n =
+    record { within = omega (arith, k .shaped .few, k .shaped .room); head = k .sound .headed n; near = k .near }
 
 -- ---- a form of its own kind
 
-module _ (s : State) (rects amounts : List ℕ) (f : Form) where
-  pub own-unknown : f ≡ Unknown → 2 ≡ ownFault unitLimits (standing s rects amounts) f
+module _ (s : State) (shapes amounts : List ℕ) (f : Form) where
+  pub own-unknown : f ≡ Unknown → 2 ≡ ownFault unitLimits (standing s shapes amounts) f
   own-unknown e = rw e
 
-  pub own-heading : (h : Head) (n : ℕ) → f ≡ Heading h → n ≡ check (agrees unitLimits h) 5 0 → n ≡ ownFault unitLimits (standing s rects amounts) f
+  pub own-heading : (h : Head) (n : ℕ) → f ≡ Heading h → n ≡ check (agrees unitLimits h) 5 0 → n ≡ ownFault unitLimits (standing s shapes amounts) f
   own-heading h n e k = rw e k
 
-  pub own-shape : (r : Rect) (n : ℕ) → f ≡ Shape r → n ≡ shapeFault unitLimits (standing s rects []) r → n ≡ ownFault unitLimits (standing s rects amounts) f
+  pub own-shape : (m : Shape) (n : ℕ) → f ≡ Metal m → n ≡ shapeFault unitLimits (standing s shapes []) (m .rect) → n ≡ ownFault unitLimits (standing s shapes amounts) f
   unfolding shapeFault
-  own-shape r n e k = rw e k
+  own-shape m n e k = rw e k
 
-  pub own-fill : (i j p n : ℕ) → f ≡ Fill i j p → n ≡ fillFault (standing s rects amounts) i j p → n ≡ ownFault unitLimits (standing s rects amounts) f
-  own-fill i j p n e k = rw e k
+  -- what is free by the regions is what is fillable by the shapes
+  pub own-fill : (regions : List ℕ) (i j p n : ℕ) → Held s shapes regions amounts → f ≡ Fill i j p →
+      n ≡ fillFault (s .head) (take (tileCount (s .head)) amounts) (freeRoom s regions i j) i j p → n ≡ ownFault unitLimits (standing s shapes amounts) f
+  own-fill regions i j p n held e k =
+      rw e
+      (k
+      ∙ ap (λ (room : ℕ). fillFault (s .head) (take (tileCount (s .head)) amounts) room i j p)
+      (regions-fillable (take (4 * s .count) regions) (keepouts (s .head .gap) (shapesIn (s .count) shapes)) (tile (tileSide (s .head)) i j)
+      (held .shaped .kept)))
 
-  pub own-end : f ≡ End → 0 ≡ ownFault unitLimits (standing s rects amounts) f
+  pub own-end : f ≡ End → 0 ≡ ownFault unitLimits (standing s shapes amounts) f
   own-end e = rw e
 
-  -- a fill in turn comes after a good head
-  pub fill-headed : (i j p : ℕ) → Held s rects amounts → f ≡ Fill i j p → inTurn (s .turn) f ≡ true → GoodHead (s .head)
-  fill-headed i j p k e t = k .sound .headed (after-head (s .turn) f t (λ h q. let z : _≡_ {A = ℕ} 0 1 = cc in omega arith))
+-- a fill in turn comes after the head
+pub fill-headed : (t : Turn) (f : Form) (i j p : ℕ) → f ≡ Fill i j p → inTurn t f ≡ true → t ≡ Before → ⊥
+fill-headed t f i j p e k = after-head t f k (λ h q. let z : _≡_ {A = ℕ} 0 1 = cc in omega arith)
 
 -- what a tile's corners ask
 pub tile-corners : (h : Head) (i j d : ℕ) → GoodHead h → TileIn h i j → d ≡ tileSide h → (suc i * d ≤ widest) × (suc j * d ≤ widest)

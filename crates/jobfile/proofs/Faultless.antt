@@ -2,18 +2,20 @@
 use Prim.Native.Nat.{ℕ, _≤_, _<_}
 use mathlib.Core.Path.{_≡_, refl}
 use mathlib.Core.Bool.{Bool, true, false, not, _&&_}
+use mathlib.Core.List.{List}
 use native.Mathlib.Omega.{arith}
 use lib.Dec.{leb, ltb, eqb, lit<}
 use lib.ListN.{length}
 use borrow.Author.Tests.{ltb-true, lt-ltb, leb-true, eqb-true, not-true}
 use Rattle.geometry.specs.declared.Rect.{Rect}
 use Rattle.geometry.specs.Layout.{sharesSquare}
-use Rattle.fill.specs.Eligible.{tile, fillableArea}
 use Rattle.fill.specs.Judge.{numberAt}
 use Rattle.laws.proofs.Tests.{both}
 use Rattle.jobfile.specs.declared.Form.{Form}
+use Rattle.jobfile.specs.declared.Head.{Head}
 use Rattle.jobfile.specs.Limits.{Limits}
-use Rattle.jobfile.specs.Forms.{inRange, tileSide, tilesAcross}
+use Rattle.jobfile.specs.Shapes.{rectangles}
+use Rattle.jobfile.specs.Forms.{inRange, tilesAcross}
 use Rattle.jobfile.specs.Faults.{Standing, known, inTurn, check, fitsLayout, shapeFault, fillFault, ownFault, lineFault}
 
 -- the test passed, and the tests after it found no fault
@@ -42,13 +44,13 @@ faultless m st f g = rw (g .spelled, g .range, g .turn, g .own)
 pub record NoShapeFault (m : Limits) (st : Standing) (r : Rect) : Type 0 where
   pub fits : fitsLayout (st .head) r ≡ true
   pub room : length (st .shapes) < m .shapes
-  pub free : sharesSquare (st .shapes) r ≡ false
+  pub free : sharesSquare (rectangles (st .shapes)) r ≡ false
 
 pub no-shape-fault : (m : Limits) (st : Standing) (r : Rect) → shapeFault m st r ≡ 0 → NoShapeFault m st r
 unfolding shapeFault
 no-shape-fault m st r e =
     let room = ltb (length (st .shapes)) (m .shapes) in
-    let free = not (sharesSquare (st .shapes) r) in
+    let free = not (sharesSquare (rectangles (st .shapes)) r) in
     let a = check-passes (fitsLayout (st .head) r) 6 (check room 8 (check free 9 0)) (lit< tt) e in
     let b = check-passes room 8 (check free 9 0) (lit< tt) (a .1) in
     let c = check-passes free 9 0 (lit< tt) (b .1) in
@@ -58,20 +60,20 @@ pub shape-faultless : (m : Limits) (st : Standing) (r : Rect) → NoShapeFault m
 unfolding shapeFault
 shape-faultless m st r g = rw (g .fits, lt-ltb (length (st .shapes)) (m .shapes) (g .room), g .free)
 
-pub record NoFillFault (st : Standing) (i j p : ℕ) : Type 0 where
-  pub column : i < tilesAcross (st .head)
-  pub row : j < tilesAcross (st .head)
-  pub free : numberAt (st .amounts) (tilesAcross (st .head)) i j ≡ 0
-  pub fits : p ≤ fillableArea (st .head .gap) (st .shapes) (tile (tileSide (st .head)) i j)
+pub record NoFillFault (h : Head) (amounts : List ℕ) (room i j p : ℕ) : Type 0 where
+  pub column : i < tilesAcross h
+  pub row : j < tilesAcross h
+  pub free : numberAt amounts (tilesAcross h) i j ≡ 0
+  pub fits : p ≤ room
 
-pub no-fill-fault : (st : Standing) (i j p : ℕ) → fillFault st i j p ≡ 0 → NoFillFault st i j p
+pub no-fill-fault : (h : Head) (amounts : List ℕ) (room i j p : ℕ) → fillFault h amounts room i j p ≡ 0 → NoFillFault h amounts room i j p
 unfolding fillFault
-no-fill-fault st i j p e =
-    let inside = ltb i (tilesAcross (st .head)) && ltb j (tilesAcross (st .head)) in
-    let free = eqb (numberAt (st .amounts) (tilesAcross (st .head)) i j) 0 in
-    let fits = leb p (fillableArea (st .head .gap) (st .shapes) (tile (tileSide (st .head)) i j)) in
+no-fill-fault h amounts room i j p e =
+    let inside = ltb i (tilesAcross h) && ltb j (tilesAcross h) in
+    let free = eqb (numberAt amounts (tilesAcross h) i j) 0 in
+    let fits = leb p room in
     let a = check-passes inside 7 (check free 10 (check fits 11 0)) (lit< tt) e in
     let b = check-passes free 10 (check fits 11 0) (lit< tt) (a .1) in
     let c = check-passes fits 11 0 (lit< tt) (b .1) in
-    let k = both (ltb i (tilesAcross (st .head))) (ltb j (tilesAcross (st .head))) (a .0) in
+    let k = both (ltb i (tilesAcross h)) (ltb j (tilesAcross h)) (a .0) in
     record { column = ltb-true _ _ (k .0); row = ltb-true _ _ (k .1); free = eqb-true _ _ (b .0); fits = leb-true _ _ (c .0) }

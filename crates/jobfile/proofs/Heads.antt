@@ -7,16 +7,21 @@ use native.Mathlib.Omega.{arith}
 use lib.Dec.{leb, eqb}
 use borrow.Author.Tests.{leb-true, eqb-true}
 use Rattle.laws.proofs.Tests.{both}
+use Rattle.jobfile.specs.declared.Gap.{Gap}
+use Rattle.jobfile.specs.declared.Gap.the-variants.{Both, Each}
 use Rattle.jobfile.specs.declared.Head.{Head}
+use Rattle.jobfile.specs.declared.Kind.{Kind}
+use Rattle.jobfile.specs.declared.Kind.the-variants.{Drawn, Dummy}
 use Rattle.jobfile.specs.Limits.{Limits, unitLimits}
-use Rattle.jobfile.specs.Forms.{inSpan, headInRange, tileSide, tilesAcross, agrees}
+use Rattle.jobfile.specs.Shapes.{gapFor}
+use Rattle.jobfile.specs.Forms.{inSpan, gapInRange, headInRange, tileSide, tilesAcross, agrees}
 use Rattle.jobfile.specs.Held.{GoodHead}
 
 pub record HeadFacts (h : Head) : Type 0 where
   pub window-least : 1 ≤ h .window
   pub window-most : h .window ≤ h .size
   pub size-most : h .size ≤ unitLimits .side
-  pub gap-most : h .gap ≤ unitLimits .side
+  pub gap-most : (k : Kind) → gapFor (h .gap) k ≤ unitLimits .side
   pub bounds-order : h .lower ≤ h .upper
   pub bounds-most : h .upper ≤ unitLimits .bound
   pub accuracy-most : h .accuracy ≤ unitLimits .accuracy
@@ -34,6 +39,12 @@ pub record Between (lo hi n : ℕ) : Type 0 where
 
 pub between : (lo hi n : ℕ) → inSpan lo hi n ≡ true → Between lo hi n
 between lo hi n e = let k = both (leb lo n) (leb n hi) e in record { least = leb-true lo n (k .0); most = leb-true n hi (k .1) }
+
+-- a gap of the head is in its range, whichever kind it is for
+pub gap-between : (m : Limits) (g : Gap) (k : Kind) → gapInRange m g ≡ true → Between 0 (m .side) (gapFor g k)
+gap-between m (Both b) k e = between 0 (m .side) b e
+gap-between m (Each b d) Drawn e = between 0 (m .side) b (both (inSpan 0 (m .side) b) (inSpan 0 (m .side) d) e .0)
+gap-between m (Each b d) Dummy e = between 0 (m .side) d (both (inSpan 0 (m .side) b) (inSpan 0 (m .side) d) e .1)
 
 -- a number that another divides is so many times it
 times : (n m : ℕ) → eqb (n % m) 0 ≡ true → n ≡ n / m * m
@@ -55,7 +66,7 @@ pub record Ranges (m : Limits) (h : Head) : Type 0 where
   pub size : Between 1 (m .side) (h .size)
   pub window : Between 1 (m .side) (h .window)
   pub cut : Between 1 (m .tiles) (h .cut)
-  pub gap : Between 0 (m .side) (h .gap)
+  pub gap : gapInRange m (h .gap) ≡ true
   pub lower : Between 0 (m .bound) (h .lower)
   pub upper : Between 0 (m .bound) (h .upper)
   pub accuracy : Between 0 (m .accuracy) (h .accuracy)
@@ -67,7 +78,7 @@ ranges m h e =
       size = between 1 (m .side) (h .size) (a .0);
       window = between 1 (m .side) (h .window) (a .1);
       cut = between 1 (m .tiles) (h .cut) (b .0);
-      gap = between 0 (m .side) (h .gap) (b .1);
+      gap = b .1;
       lower = between 0 (m .bound) (h .lower) (c .0);
       upper = between 0 (m .bound) (h .upper) (c .1);
       accuracy = between 0 (m .accuracy) (h .accuracy) (d .0);
@@ -78,7 +89,7 @@ ranges m h e =
     sides = inSpan 1 (m .side) (h .size) && inSpan 1 (m .side) (h .window)
 
     tiles : Bool
-    tiles = inSpan 1 (m .tiles) (h .cut) && inSpan 0 (m .side) (h .gap)
+    tiles = inSpan 1 (m .tiles) (h .cut) && gapInRange m (h .gap)
 
     bounds : Bool
     bounds = inSpan 0 (m .bound) (h .lower) && inSpan 0 (m .bound) (h .upper)
@@ -92,8 +103,8 @@ ranges m h e =
     a : (inSpan 1 (m .side) (h .size) ≡ true) × (inSpan 1 (m .side) (h .window) ≡ true)
     a = both (inSpan 1 (m .side) (h .size)) (inSpan 1 (m .side) (h .window)) (k .0)
 
-    b : (inSpan 1 (m .tiles) (h .cut) ≡ true) × (inSpan 0 (m .side) (h .gap) ≡ true)
-    b = both (inSpan 1 (m .tiles) (h .cut)) (inSpan 0 (m .side) (h .gap)) (k .1)
+    b : (inSpan 1 (m .tiles) (h .cut) ≡ true) × (gapInRange m (h .gap) ≡ true)
+    b = both (inSpan 1 (m .tiles) (h .cut)) (gapInRange m (h .gap)) (k .1)
 
     c : (inSpan 0 (m .bound) (h .lower) ≡ true) × (inSpan 0 (m .bound) (h .upper) ≡ true)
     c = both (inSpan 0 (m .bound) (h .lower)) (inSpan 0 (m .bound) (h .upper)) (k .2)
@@ -139,7 +150,7 @@ head-facts h g =
       window-least = r .window .least;
       window-most = a .fits;
       size-most = r .size .most;
-      gap-most = r .gap .most;
+      gap-most = λ k. gap-between unitLimits (h .gap) k (r .gap) .most;
       bounds-order = a .order;
       bounds-most = r .upper .most;
       accuracy-most = r .accuracy .most;

@@ -1,4 +1,5 @@
 pub mod Tables
+pub mod ShapeTables
 pub mod Faultless
 pub mod Sound
 pub mod Entering

@@ -26,10 +26,9 @@ use Rattle.jobfile.specs.Limits.{Limits, unitLimits}
 use Rattle.jobfile.specs.Forms.{formOf}
 use Rattle.jobfile.specs.Faults.{Standing, beforeHead, noHead, lineFault, standsAfter}
 use Rattle.jobfile.specs.File.{Outcome, refused, atEnd, afterLast, readLines, outcomeOf}
-use Rattle.jobfile.specs.Held.{shapesRoom, amountsRoom, tileCount, standing, Held, Entered, firstLine, firstFault, LineRead, endFault, jobOf, tableOf, padded, asJob}
-use Rattle.jobfile.proofs.Tables.{table-of-rects, zeros}
+use Rattle.jobfile.specs.Held.{amountsRoom, tileCount, shapesBy, shapesIn, standing, tableOf, padded, AmountsKept, Held, Cleared, Entered, firstLine, firstFault, LineRead, endFault, jobOf, asJob}
+use Rattle.jobfile.proofs.Tables.{zeros}
 use Rattle.jobfile.proofs.Sound.{sound-start}
-use Rattle.jobfile.proofs.Entering.{held-count}
 
 -- ---- one line more
 
@@ -112,29 +111,29 @@ module _ (m : Limits) (st : Standing) (k : ℕ) (rest : List ℕ) where
 
 -- ---- one line, as the code reads it
 
-module _ (rest : List ℕ) (s : State) (rects amounts : List ℕ) (n : ℕ) (e : n ≡ lineLength rest) where
-  pub read-unfed : length rest ≤ n → LineRead rest s rects amounts (record { fault = 2; used = n + 1; state = s }) rects amounts
+module _ (rest : List ℕ) (s : State) (shapes regions amounts : List ℕ) (n : ℕ) (e : n ≡ lineLength rest) where
+  pub read-unfed : length rest ≤ n → LineRead rest s shapes regions amounts (record { fault = 2; used = n + 1; state = s }) shapes regions amounts
   read-unfed h =
       record {
-        fault = sym (unfed-fault unitLimits (standing s rects amounts) 0 rest (omega (arith, e)));
+        fault = sym (unfed-fault unitLimits (standing s shapes amounts) 0 rest (omega (arith, e)));
         used = ap (λ (m : ℕ). m + 1) e;
         good = λ z. absurd (omega arith);
-        bad = λ z. (refl, refl, refl);
+        bad = λ z. (refl, refl, refl, refl);
       }
 
-  module _ (h : n < length rest) (f : Form) (q : f ≡ formOf unitLimits (take n rest)) (fault : ℕ) (p : fault ≡ lineFault unitLimits (standing s rects amounts) f) where
+  module _ (h : n < length rest) (f : Form) (q : f ≡ formOf unitLimits (take n rest)) (fault : ℕ) (p : fault ≡ lineFault unitLimits (standing s shapes amounts) f) where
     same-form : f ≡ formOf unitLimits (firstLine rest)
     same-form = q ∙ ap (λ (m : ℕ). formOf unitLimits (take m rest)) e
 
-    same-fault : fault ≡ firstFault unitLimits (standing s rects amounts) rest
-    same-fault = p ∙ ap (lineFault unitLimits (standing s rects amounts)) same-form ∙ sym (fed-fault unitLimits (standing s rects amounts) 0 rest (omega (arith, e)))
+    same-fault : fault ≡ firstFault unitLimits (standing s shapes amounts) rest
+    same-fault = p ∙ ap (lineFault unitLimits (standing s shapes amounts)) same-form ∙ sym (fed-fault unitLimits (standing s shapes amounts) 0 rest (omega (arith, e)))
 
-    pub read-faulty : (fault ≡ 0 → ⊥) → LineRead rest s rects amounts (record { fault = fault; used = n + 1; state = s }) rects amounts
-    read-faulty z = record { fault = same-fault; used = ap (λ (m : ℕ). m + 1) e; good = λ g. absurd (z g); bad = λ b. (refl, refl, refl) }
+    pub read-faulty : (fault ≡ 0 → ⊥) → LineRead rest s shapes regions amounts (record { fault = fault; used = n + 1; state = s }) shapes regions amounts
+    read-faulty z = record { fault = same-fault; used = ap (λ (m : ℕ). m + 1) e; good = λ g. absurd (z g); bad = λ b. (refl, refl, refl, refl) }
 
-    pub read-good : (s′ : State) (rects′ amounts′ : List ℕ) → fault ≡ 0 → Entered s rects amounts f s′ rects′ amounts′ →
-        LineRead rest s rects amounts (record { fault = 0; used = n + 1; state = s′ }) rects′ amounts′
-    read-good s′ rects′ amounts′ z g =
+    pub read-good : (s′ : State) (shapes′ regions′ amounts′ : List ℕ) → fault ≡ 0 → Entered s shapes amounts f s′ shapes′ regions′ amounts′ →
+        LineRead rest s shapes regions amounts (record { fault = 0; used = n + 1; state = s′ }) shapes′ regions′ amounts′
+    read-good s′ shapes′ regions′ amounts′ z g =
         record {
           fault = sym z ∙ same-fault;
           used = ap (λ (m : ℕ). m + 1) e;
@@ -144,25 +143,21 @@ module _ (rest : List ℕ) (s : State) (rects amounts : List ℕ) (n : ℕ) (e :
 
 -- ---- what was read, and what is left from a place
 
-pub record ReadSoFar (file : List ℕ) (s : State) (rects amounts : List ℕ) (line at : ℕ) : Type 0 where
-  pub held : Held s rects amounts
+pub record ReadSoFar (file : List ℕ) (s : State) (shapes regions amounts : List ℕ) (line at : ℕ) : Type 0 where
+  pub held : Held s shapes regions amounts
   pub within : at ≤ length file
   pub lines : line ≤ at + 1
-  pub whole : readLines unitLimits beforeHead 1 (pieces file) ≡ readLines unitLimits (standing s rects amounts) line (pieces (drop at file))
+  pub whole : readLines unitLimits beforeHead 1 (pieces file) ≡ readLines unitLimits (standing s shapes amounts) line (pieces (drop at file))
 
-pub read-so-far-start : (file rects amounts : List ℕ) (h : Head) → rects ≡ zeros shapesRoom → amounts ≡ zeros amountsRoom → h ≡ noHead →
-    ReadSoFar file (record { turn = Before; head = h; count = 0; near = NoRow }) rects amounts 1 0
-unfolding rectsOf
-read-so-far-start file rects amounts h er ea eh =
-    rw (er, ea, eh)
+pub read-so-far-start : (file shapes regions amounts : List ℕ) (h : Head) → Cleared shapes regions amounts → h ≡ noHead →
+    ReadSoFar file (record { turn = Before; head = h; count = 0; near = NoRow }) shapes regions amounts 1 0
+unfolding rectsOf shapesBy tableOf
+read-so-far-start file shapes regions amounts h c eh =
+    rw (c .no-shapes, c .no-regions, c .no-amounts, eh)
     (record {
       held = record {
-        room = refl;
-        amounts-room = refl;
-        count = lit≤ tt;
-        tiles = lit≤ tt;
-        behind = refl;
-        beyond = refl;
+        shaped = record { table = refl; counted = refl; few = lit≤ tt; room = refl; kept = refl };
+        filled = record { room = refl; tiles = lit≤ tt; beyond = refl };
         sound = sound-start;
         near = tt;
       };
@@ -172,10 +167,10 @@ read-so-far-start file rects amounts h er ea eh =
     })
 
 -- one good line more
-pub read-so-far-next : (file : List ℕ) (s : State) (rects amounts : List ℕ) (line at : ℕ) (rest : List ℕ) (r : Step) (rects′ amounts′ : List ℕ) →
-    ReadSoFar file s rects amounts line at → rest ≡ drop at file → LineRead rest s rects amounts r rects′ amounts′ → r .fault ≡ 0 →
-    ReadSoFar file (r .state) rects′ amounts′ (line + 1) (at + r .used)
-read-so-far-next file s rects amounts line at rest r rects′ amounts′ k e read z =
+pub read-so-far-next : (file : List ℕ) (s : State) (shapes regions amounts : List ℕ) (line at : ℕ) (rest : List ℕ) (r : Step) (shapes′ regions′ amounts′ : List ℕ) →
+    ReadSoFar file s shapes regions amounts line at → rest ≡ drop at file → LineRead rest s shapes regions amounts r shapes′ regions′ amounts′ → r .fault ≡ 0 →
+    ReadSoFar file (r .state) shapes′ regions′ amounts′ (line + 1) (at + r .used)
+read-so-far-next file s shapes regions amounts line at rest r shapes′ regions′ amounts′ k e read z =
     record {
       held = read .good z .held;
       within = omega (arith, feed, read .used, ap length e, length-drop at file, k .within);
@@ -183,17 +178,17 @@ read-so-far-next file s rects amounts line at rest r rects′ amounts′ k e rea
       whole =
           k .whole ∙ ap (λ (t : List ℕ). readLines unitLimits st line (pieces t)) (sym e) ∙ line-good unitLimits st line rest fault
           ∙ ap₂ (λ (x : Standing) (t : List ℕ). readLines unitLimits x (suc line) (pieces t)) (sym (read .good z .stands)) left
-          ∙ ap (λ (n : ℕ). readLines unitLimits (standing (r .state) rects′ amounts′) n (pieces (drop (at + r .used) file))) (sym (add-one line));
+          ∙ ap (λ (n : ℕ). readLines unitLimits (standing (r .state) shapes′ amounts′) n (pieces (drop (at + r .used) file))) (sym (add-one line));
     }
   where
     st : Standing
-    st = standing s rects amounts
+    st = standing s shapes amounts
 
-    fault : firstFault unitLimits (standing s rects amounts) rest ≡ 0
+    fault : firstFault unitLimits (standing s shapes amounts) rest ≡ 0
     fault = sym (read .fault) ∙ z
 
     feed : lineLength rest < length rest
-    feed = good-fed unitLimits (standing s rects amounts) line rest fault
+    feed = good-fed unitLimits (standing s shapes amounts) line rest fault
 
     left : drop (suc (lineLength rest)) rest ≡ drop (at + r .used) file
     left =
@@ -201,16 +196,16 @@ read-so-far-next file s rects amounts line at rest r rects′ amounts′ k e rea
         ∙ ap (λ (n : ℕ). drop (at + n) file) (sym (read .used ∙ add-one (lineLength rest)))
 
 -- a faulty line ends the reading
-pub read-so-far-bad : (file : List ℕ) (s : State) (rects amounts : List ℕ) (line at : ℕ) (rest : List ℕ) (r : Step) (rects′ amounts′ : List ℕ) →
-    ReadSoFar file s rects amounts line at → at < length file → rest ≡ drop at file → LineRead rest s rects amounts r rects′ amounts′ →
-    (r .fault ≡ 0 → ⊥) → jobOf (record { fault = r .fault; line = line; state = s }) rects′ amounts′ ≡ asJob (readLines unitLimits beforeHead 1 (pieces file))
+pub read-so-far-bad : (file : List ℕ) (s : State) (shapes regions amounts : List ℕ) (line at : ℕ) (rest : List ℕ) (r : Step) (shapes′ regions′ amounts′ : List ℕ) →
+    ReadSoFar file s shapes regions amounts line at → at < length file → rest ≡ drop at file → LineRead rest s shapes regions amounts r shapes′ regions′ amounts′ →
+    (r .fault ≡ 0 → ⊥) → jobOf (record { fault = r .fault; line = line; state = s }) shapes′ amounts′ ≡ asJob (readLines unitLimits beforeHead 1 (pieces file))
 unfolding jobOf
-read-so-far-bad file s rects amounts line at rest r rects′ amounts′ k h e read n =
+read-so-far-bad file s shapes regions amounts line at rest r shapes′ regions′ amounts′ k h e read n =
     rw (ne-eqb (r .fault) 0 n, jobOf)
     (ap asJob
     (sym
-    (k .whole ∙ ap (λ (t : List ℕ). readLines unitLimits (standing s rects amounts) line (pieces t)) (sym e)
-    ∙ line-bad unitLimits (standing s rects amounts) line rest (omega (arith, ap length e, length-drop at file)) (λ z. n (read .fault ∙ z))
+    (k .whole ∙ ap (λ (t : List ℕ). readLines unitLimits (standing s shapes amounts) line (pieces t)) (sym e)
+    ∙ line-bad unitLimits (standing s shapes amounts) line rest (omega (arith, ap length e, length-drop at file)) (λ z. n (read .fault ∙ z))
     ∙ ap (λ (m : ℕ). refused m line) (sym (read .fault)))))
 
 -- ---- the tables at the end
@@ -220,37 +215,31 @@ filled : (n k : ℕ) (l t : List ℕ) → take k l ≡ t → length l ≡ n → 
 filled n k l t e w h d =
     sym (take-append-drop k l) ∙ ap₂ _++_ e (d ∙ ap (λ (m : ℕ). zeros (n - m)) (sym (ap length (sym e) ∙ length-take-le k l (omega (arith, w)))))
 
-held-rects : (s : State) (rects amounts : List ℕ) → Held s rects amounts → rects ≡ padded shapesRoom (tableOf (rectsOf (take (4 * s .count) rects)))
-held-rects s rects amounts k =
-    filled shapesRoom (4 * s .count) rects (tableOf (rectsOf (take (4 * s .count) rects)))
-    (sym (table-of-rects (s .count) (take (4 * s .count) rects) (length-take-le (4 * s .count) rects (omega (arith, k .count, k .room)))))
-    (k .room) (omega (arith, k .count)) (k .behind)
-
-held-amounts : (s : State) (rects amounts : List ℕ) → Held s rects amounts → amounts ≡ padded amountsRoom (take (tileCount (s .head)) amounts)
-held-amounts s rects amounts k = filled amountsRoom (tileCount (s .head)) amounts (take (tileCount (s .head)) amounts) refl (k .amounts-room) (k .tiles) (k .beyond)
+held-amounts : (h : Head) (amounts : List ℕ) → AmountsKept h amounts → amounts ≡ padded amountsRoom (take (tileCount h) amounts)
+held-amounts h amounts k = filled amountsRoom (tileCount h) amounts (take (tileCount h) amounts) refl (k .room) (k .tiles) (k .beyond)
 
 -- the job where (end) was read, and where it was not
-ended : (s : State) (line : ℕ) (rects amounts : List ℕ) → Held s rects amounts → (t : Turn) →
-    jobOf (record { fault = endFault t; line = line; state = s }) rects amounts ≡ asJob (atEnd t line (standing s rects amounts))
+ended : (s : State) (line : ℕ) (shapes regions amounts : List ℕ) → Held s shapes regions amounts → (t : Turn) →
+    jobOf (record { fault = endFault t; line = line; state = s }) shapes amounts ≡ asJob (atEnd t line (standing s shapes amounts))
 unfolding jobOf
-ended s line rects amounts k Before = refl
-ended s line rects amounts k Shapes = refl
-ended s line rects amounts k Fills = refl
-ended s line rects amounts k Done =
-    ap (λ (n : ℕ). job n rects amounts) (sym (held-count s rects amounts k))
-    ∙ ap₂ (job (length (rectsOf (take (4 * s .count) rects)))) (held-rects s rects amounts k) (held-amounts s rects amounts k)
+ended s line shapes regions amounts k Before = refl
+ended s line shapes regions amounts k Shapes = refl
+ended s line shapes regions amounts k Fills = refl
+ended s line shapes regions amounts k Done =
+    ap (λ (n : ℕ). job n shapes amounts) (sym (k .shaped .counted))
+    ∙ ap₂ (job (length (shapesIn (s .count) shapes))) (k .shaped .table) (held-amounts (s .head) amounts (k .filled))
   where
     job : ℕ → List ℕ → List ℕ → Job
-    job n r a = record { fault = 0; line = 0; head = s .head; count = n; rects = r; amounts = a }
+    job n l a = record { fault = 0; line = 0; head = s .head; count = n; shapes = l; amounts = a }
 
 -- the end of the file
-pub read-so-far-end : (file : List ℕ) (s : State) (rects amounts : List ℕ) (line at n : ℕ) → ReadSoFar file s rects amounts line at → length file ≤ at →
-    n ≡ endFault (s .turn) → jobOf (record { fault = n; line = line; state = s }) rects amounts ≡ asJob (readLines unitLimits beforeHead 1 (pieces file))
+pub read-so-far-end : (file : List ℕ) (s : State) (shapes regions amounts : List ℕ) (line at n : ℕ) → ReadSoFar file s shapes regions amounts line at → length file ≤ at →
+    n ≡ endFault (s .turn) → jobOf (record { fault = n; line = line; state = s }) shapes amounts ≡ asJob (readLines unitLimits beforeHead 1 (pieces file))
 unfolding pieces readLines
-read-so-far-end file s rects amounts line at n k h e =
-    ap (λ (m : ℕ). jobOf (record { fault = m; line = line; state = s }) rects amounts) e
-    ∙ ended s line rects amounts (k .held) (s .turn)
-    ∙ ap asJob (sym (k .whole ∙ ap (λ (t : List ℕ). readLines unitLimits (standing s rects amounts) line (pieces t)) (drop-of-length-le file h)))
+read-so-far-end file s shapes regions amounts line at n k h e =
+    ap (λ (m : ℕ). jobOf (record { fault = m; line = line; state = s }) shapes amounts) e
+    ∙ ended s line shapes regions amounts (k .held) (s .turn)
+    ∙ ap asJob (sym (k .whole ∙ ap (λ (t : List ℕ). readLines unitLimits (standing s shapes amounts) line (pieces t)) (drop-of-length-le file h)))
 
 -- the part of a list from a place to its end
 pub from-place : (l : List ℕ) (n : ℕ) → take (length l - n) (drop n l) ≡ drop n l
@@ -266,13 +255,13 @@ pub short-enough : (m : Limits) (file : List ℕ) → length file ≤ m .bytes �
 unfolding outcomeOf
 short-enough m file h = rw (le-leb (length file) (m .bytes) h, outcomeOf)
 
-module _ (file : List ℕ) (h : length file ≤ unitLimits .bytes) (e : Ending) (rects amounts : List ℕ)
-    (same : jobOf e rects amounts ≡ asJob (readLines unitLimits beforeHead 1 (pieces file))) where
+module _ (file : List ℕ) (h : length file ≤ unitLimits .bytes) (e : Ending) (shapes amounts : List ℕ)
+    (same : jobOf e shapes amounts ≡ asJob (readLines unitLimits beforeHead 1 (pieces file))) where
   pub whole-bad : (j : Job) → (e .fault ≡ 0 → ⊥) → j ≡ asJob (refused (e .fault) (e .line)) → j ≡ asJob (outcomeOf unitLimits file)
   unfolding jobOf
   whole-bad j n q = q ∙ rw (ne-eqb (e .fault) 0 n, jobOf) at same ∙ ap asJob (short-enough unitLimits file h)
 
   pub whole-good : e .fault ≡ 0 →
-      record { fault = 0; line = 0; head = e .state .head; count = e .state .count; rects = rects; amounts = amounts } ≡ asJob (outcomeOf unitLimits file)
+      record { fault = 0; line = 0; head = e .state .head; count = e .state .count; shapes = shapes; amounts = amounts } ≡ asJob (outcomeOf unitLimits file)
   unfolding jobOf
   whole-good z = rw (eq-eqb (e .fault) 0 z, jobOf) at same ∙ ap asJob (short-enough unitLimits file h)

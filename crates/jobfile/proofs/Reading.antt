@@ -10,24 +10,27 @@ use Rattle.spelling.specs.Pattern.{readAs}
 use Rattle.spelling.specs.Scanning.{asReading}
 use Rattle.spelling.proofs.Patterns.{reading-found, reading-missed}
 use Rattle.jobfile.specs.declared.Form.{Form}
-use Rattle.jobfile.specs.declared.Form.the-variants.{Unknown, End}
+use Rattle.jobfile.specs.declared.Kind.{Kind}
 use Rattle.jobfile.specs.Limits.{unitLimits}
-use Rattle.jobfile.specs.Forms.{headPattern, rectPattern, fillPattern, endPattern, headingForm, shapeForm, fillForm, endForm, formIf, formOf}
+use Rattle.jobfile.specs.Forms.{oneGapForm, twoGapsForm, shapeForm, fillForm, endForm, formIf}
 
 -- a form goes by its numbers, whatever stands behind them
 abbrev ByNumbers : (List ℕ → Form) → Type 0
 ByNumbers form = (s t : List ℕ) → ((i : ℕ) → getD s i 0 ≡ getD t i 0) → form s ≡ form t
 
-heading-by : ByNumbers headingForm
-heading-by s t h = rw (h 0, h 1, h 2, h 3, h 4, h 5, h 6, h 7)
+pub one-gap-by : ByNumbers oneGapForm
+one-gap-by s t h = rw (h 0, h 1, h 2, h 3, h 4, h 5, h 6, h 7)
 
-shape-by : ByNumbers shapeForm
-shape-by s t h = rw (h 0, h 1, h 2, h 3)
+pub two-gaps-by : ByNumbers twoGapsForm
+two-gaps-by s t h = rw (h 0, h 1, h 2, h 3, h 4, h 5, h 6, h 7, h 8)
 
-fill-by : ByNumbers fillForm
+pub shape-by : (k : Kind) → ByNumbers (shapeForm k)
+shape-by k s t h = rw (h 0, h 1, h 2, h 3)
+
+pub fill-by : ByNumbers fillForm
 fill-by s t h = rw (h 0, h 1, h 2)
 
-end-by : ByNumbers endForm
+pub end-by : ByNumbers endForm
 end-by s t h = refl
 
 -- a line that was read by a pattern, and one that was not
@@ -38,30 +41,20 @@ read form by o q other e t = let k = reading-found o q e t in rw (k .is) (sym (b
 not-read : (form : List ℕ → Form) (o : Option (List ℕ)) (q : Reading) (other : Form) → q ≡ asReading o → q .ok ≡ false → formIf o form other ≡ other
 not-read form o q other e t = rw (reading-missed o q e t)
 
-module _ (line : List ℕ) (h : Reading) (eh : h ≡ asReading (readAs (unitLimits .digits) headPattern line)) where
-  pub form-heading : (r : Form) → h .ok ≡ true → r ≡ headingForm (h .values) → r ≡ formOf unitLimits line
-  unfolding formOf
-  form-heading r t e = e ∙ sym (read headingForm heading-by (readAs (unitLimits .digits) headPattern line) h _ eh t)
+-- two patterns in turn, and what the line is where it is neither's
+module _ (p p₂ : List ℕ) (form form₂ : List ℕ → Form) (other : Form) (line : List ℕ) (q : Reading) (e : q ≡ asReading (readAs (unitLimits .digits) p line)) where
+  abbrev first : Option (List ℕ)
+  first = readAs (unitLimits .digits) p line
 
-  module _ (th : h .ok ≡ false) (q : Reading) (eq : q ≡ asReading (readAs (unitLimits .digits) rectPattern line)) where
-    pub form-shape : (r : Form) → q .ok ≡ true → r ≡ shapeForm (q .values) → r ≡ formOf unitLimits line
-    unfolding formOf
-    form-shape r t e =
-        e ∙ sym (not-read headingForm (readAs (unitLimits .digits) headPattern line) h _ eh th ∙ read shapeForm shape-by (readAs (unitLimits .digits) rectPattern line) q _ eq t)
+  abbrev second : Option (List ℕ)
+  second = readAs (unitLimits .digits) p₂ line
 
-    module _ (tq : q .ok ≡ false) (f : Reading) (ef : f ≡ asReading (readAs (unitLimits .digits) fillPattern line)) where
-      earlier : formOf unitLimits line ≡ formIf (readAs (unitLimits .digits) fillPattern line) fillForm (formIf (readAs (unitLimits .digits) endPattern line) endForm Unknown)
-      unfolding formOf
-      earlier = not-read headingForm (readAs (unitLimits .digits) headPattern line) h _ eh th ∙ not-read shapeForm (readAs (unitLimits .digits) rectPattern line) q _ eq tq
+  pub first-read : ByNumbers form → (r : Form) → q .ok ≡ true → r ≡ form (q .values) → r ≡ formIf first form (formIf second form₂ other)
+  first-read by r t is = is ∙ sym (read form by first q (formIf second form₂ other) e t)
 
-      pub form-fill : (r : Form) → f .ok ≡ true → r ≡ fillForm (f .values) → r ≡ formOf unitLimits line
-      form-fill r t e = e ∙ sym (earlier ∙ read fillForm fill-by (readAs (unitLimits .digits) fillPattern line) f _ ef t)
+  module _ (f : q .ok ≡ false) (q₂ : Reading) (e₂ : q₂ ≡ asReading (readAs (unitLimits .digits) p₂ line)) where
+    pub second-read : ByNumbers form₂ → (r : Form) → q₂ .ok ≡ true → r ≡ form₂ (q₂ .values) → r ≡ formIf first form (formIf second form₂ other)
+    second-read by r t is = is ∙ sym (not-read form first q (formIf second form₂ other) e f ∙ read form₂ by second q₂ other e₂ t)
 
-      module _ (tf : f .ok ≡ false) (d : Reading) (ed : d ≡ asReading (readAs (unitLimits .digits) endPattern line)) where
-        pub form-end : d .ok ≡ true → End ≡ formOf unitLimits line
-        form-end t =
-            sym (earlier ∙ not-read fillForm (readAs (unitLimits .digits) fillPattern line) f _ ef tf ∙ read endForm end-by (readAs (unitLimits .digits) endPattern line) d _ ed t)
-
-        pub form-unknown : d .ok ≡ false → Unknown ≡ formOf unitLimits line
-        form-unknown t =
-            sym (earlier ∙ not-read fillForm (readAs (unitLimits .digits) fillPattern line) f _ ef tf ∙ not-read endForm (readAs (unitLimits .digits) endPattern line) d _ ed t)
+    pub neither-read : (r : Form) → q₂ .ok ≡ false → r ≡ other → r ≡ formIf first form (formIf second form₂ other)
+    neither-read r t is = is ∙ sym (not-read form first q (formIf second form₂ other) e f ∙ not-read form₂ second q₂ other e₂ t)

@@ -1,27 +1,26 @@
--- The part of the rectangles' table that is kept at hand for a row of tiles: it is enough for every tile of the row.
-use Prim.Native.Nat.{ℕ, suc, _+_, _*_, _≤_}
+-- The part of the table of regions that is kept at hand for a row of tiles: it is enough for every tile of the row.
+use Prim.Native.Nat.{ℕ, suc, _+_, _*_, _≤_, _<_}
 use mathlib.Core.Path.{_≡_, refl, sym, ap, _∙_, subst}
 use mathlib.Core.Bool.{Bool, true, false}
 use mathlib.Core.List.{List}
-use native.Mathlib.Nat.{le-trans, mul-le-mul-right}
+use native.Mathlib.Nat.{mul-le-mul-right}
 use native.Mathlib.Omega.{arith}
-use lib.Dec.{eqb, lit≤}
+use lib.Dec.{eqb}
 use lib.ListN.{length, take}
 use borrow.Author.Tests.{eq-eqb, ne-eqb, eqb-true}
 use Rattle.geometry.specs.declared.Rect.{Rect}
 use Rattle.fill.specs.declared.Part.{Part}
 use Rattle.fill.specs.Eligible.{tile}
 use Rattle.fill.specs.Free.{Serves}
-use Rattle.fill.specs.Sizes.{SmallBox}
 use Rattle.fill.proofs.Near.{all-serves, serves-inside}
 use Rattle.jobfile.specs.declared.Head.{Head}
 use Rattle.jobfile.specs.declared.Near.{Near}
 use Rattle.jobfile.specs.declared.Near.the-variants.{NoRow, Row}
 use Rattle.jobfile.specs.declared.State.{State}
 use Rattle.jobfile.specs.Limits.{unitLimits}
-use Rattle.jobfile.specs.Forms.{tileSide}
-use Rattle.jobfile.specs.Held.{GoodHead, TileIn, rowBox, NearHeld, isRow, partFor, RowAsked}
-use Rattle.jobfile.proofs.Heads.{HeadFacts, head-facts, tile-end}
+use Rattle.jobfile.specs.Forms.{tileSide, tilesAcross}
+use Rattle.jobfile.specs.Held.{GoodHead, TileIn, rowBox, NearHeld, isRow, partFor, RegionsHeld}
+use Rattle.jobfile.proofs.Heads.{head-facts, tile-end}
 
 -- ---- which part, by the tests
 
@@ -41,20 +40,20 @@ module _ (near : Near) (row : ℕ) where
 
 -- ---- it is enough
 
-near-serves : (h : Head) (t : List ℕ) (near : Near) (row : ℕ) → NearHeld h t near → Serves (h .gap) t (rowBox h row) (partFor near row (length t))
-near-serves h t NoRow row k = all-serves (h .gap) t (rowBox h row)
+near-serves : (h : Head) (t : List ℕ) (near : Near) (row : ℕ) → NearHeld h t near → Serves t (rowBox h row) (partFor near row (length t))
+near-serves h t NoRow row k = all-serves t (rowBox h row)
 near-serves h t (Row j p) row k = go (eqb j row) refl
   where
-    go : (b : Bool) → eqb j row ≡ b → Serves (h .gap) t (rowBox h row) (elim b [ true ↦ p | false ↦ record { from = 0; to = length t } ])
-    go true e = subst (λ (i : ℕ). Serves (h .gap) t (rowBox h i) p) (eqb-true j row e) k
-    go false e = all-serves (h .gap) t (rowBox h row)
+    go : (b : Bool) → eqb j row ≡ b → Serves t (rowBox h row) (elim b [ true ↦ p | false ↦ record { from = 0; to = length t } ])
+    go true e = subst (λ (i : ℕ). Serves t (rowBox h i) p) (eqb-true j row e) k
+    go false e = all-serves t (rowBox h row)
 
 pub tile-served : (h : Head) (t : List ℕ) (near : Near) (i j all : ℕ) (b : Rect) (p : Part) → GoodHead h → TileIn h i j → NearHeld h t near → all ≡ length t →
-    b ≡ tile (tileSide h) i j → p ≡ partFor near j all → Serves (h .gap) t b p
+    b ≡ tile (tileSide h) i j → p ≡ partFor near j all → Serves t b p
 tile-served h t near i j all b p g k n e f q =
-    subst (λ (c : Rect). Serves (h .gap) t c p) (sym f)
-    (subst (Serves (h .gap) t (tile (tileSide h) i j)) (sym (q ∙ ap (partFor near j) e))
-    (serves-inside (h .gap) t (rowBox h j) (tile (tileSide h) i j) (partFor near j (length t)) (near-serves h t near j n)
+    subst (λ (c : Rect). Serves t c p) (sym f)
+    (subst (Serves t (tile (tileSide h) i j)) (sym (q ∙ ap (partFor near j) e))
+    (serves-inside t (rowBox h j) (tile (tileSide h) i j) (partFor near j (length t)) (near-serves h t near j n)
     (omega arith) (omega arith) right (omega arith)))
   where
     right : suc i * tileSide h ≤ h .size
@@ -62,22 +61,10 @@ tile-served h t near i j all b p g k n e f q =
 
 -- ---- the part for a row
 
-module _ (s : State) (rects : List ℕ) (row d : ℕ) (k : RowAsked s rects row) (e : d ≡ tileSide (s .head)) where
-  facts : HeadFacts (s .head)
-  facts = head-facts (s .head) (k .head)
-
+module _ (s : State) (regions : List ℕ) (row d : ℕ) (k : RegionsHeld s regions) (inside : row < tilesAcross (s .head)) (e : d ≡ tileSide (s .head)) where
   pub row-end : row * d + d ≤ unitLimits .side
-  row-end = rw e (omega (arith, tile-end (s .head) row facts (k .inside)))
+  row-end = rw e (omega (arith, tile-end (s .head) row (head-facts (s .head) (k .head)) inside))
 
-  pub row-small : SmallBox (take (4 * s .count) rects) (s .head .gap) (record { x1 = 0; y1 = row * d; x2 = s .head .size; y2 = row * d + d })
-  row-small =
-      record {
-        numbers = k .shapes .drawn .small;
-        narrow = le-trans (facts .gap-most) (lit≤ tt);
-        right = le-trans (facts .size-most) (lit≤ tt);
-        high = le-trans row-end (lit≤ tt);
-      }
-
-  pub row-served : (p : Part) → Serves (s .head .gap) (take (4 * s .count) rects) (record { x1 = 0; y1 = row * d; x2 = s .head .size; y2 = row * d + d }) p →
-      NearHeld (s .head) (take (4 * s .count) rects) (Row row p)
+  pub row-served : (p : Part) → Serves (take (4 * s .count) regions) (record { x1 = 0; y1 = row * d; x2 = s .head .size; y2 = row * d + d }) p →
+      NearHeld (s .head) (take (4 * s .count) regions) (Row row p)
   row-served p q = rw e at q

@@ -2,7 +2,7 @@
 use Prim.Native.Nat.{ℕ, _+_, _*_, _/_, _%_, _≤_, _<_}
 use mathlib.Core.Path.{_≡_, refl, sym, ap, _∙_}
 use mathlib.Core.Bool.{true, false≢true}
-use mathlib.Core.List.{List, [], _∷_, _++_}
+use mathlib.Core.List.{List, [], _∷_, _++_, map-append}
 use native.Mathlib.Decide.{ℕ-discrete}
 use native.Mathlib.Omega.{arith}
 use lib.Dec.{lit<, lit≤}
@@ -13,33 +13,34 @@ use Rattle.geometry.specs.declared.Rect.{Rect}
 use Rattle.geometry.specs.Layout.{Disjoint}
 use Rattle.geometry.proofs.Sharing.{shares-none}
 use Rattle.geometry.proofs.Tables.{disjoint-more}
-use Rattle.fill.specs.Eligible.{tile, fillableArea}
 use Rattle.fill.specs.Judge.{tileIndex, numberAt}
 use Rattle.jobfile.specs.declared.Head.{Head}
 use Rattle.jobfile.specs.declared.Form.{Form}
-use Rattle.jobfile.specs.declared.Form.the-variants.{Unknown, Heading, Shape, Fill, End}
+use Rattle.jobfile.specs.declared.Form.the-variants.{Unknown, Heading, Metal, Fill, End}
+use Rattle.jobfile.specs.declared.Shape.{Shape}
 use Rattle.jobfile.specs.declared.Turn.{Turn}
 use Rattle.jobfile.specs.declared.Turn.the-variants.{Before, Shapes, Fills, Done}
 use Rattle.jobfile.specs.Limits.{unitLimits}
-use Rattle.jobfile.specs.Forms.{rectInRange, tileSide, tilesAcross, agrees}
-use Rattle.jobfile.specs.Faults.{Standing, beforeHead, inTurn, fitsLayout, lineFault, standsAfter}
+use Rattle.jobfile.specs.Shapes.{rectangles}
+use Rattle.jobfile.specs.Forms.{rectInRange, tilesAcross, agrees}
+use Rattle.jobfile.specs.Faults.{Standing, beforeHead, inTurn, fitsLayout, roomOf, lineFault, standsAfter}
 use Rattle.jobfile.specs.Held.{tileCount, GoodShapes, Sound}
 use Rattle.jobfile.proofs.Faultless.{check-passes, NoFault, no-fault, NoShapeFault, no-shape-fault, NoFillFault, no-fill-fault}
 use Rattle.jobfile.proofs.Tables.{getD-zeros}
 
 -- ---- the turn
 
-pub shape-turn : (t : Turn) (r : Rect) → inTurn t (Shape r) ≡ true → t ≡ Shapes
-shape-turn Before r e = absurd (false≢true e)
-shape-turn Shapes r e = refl
-shape-turn Fills r e = absurd (false≢true e)
-shape-turn Done r e = absurd (false≢true e)
+pub shape-turn : (t : Turn) (s : Shape) → inTurn t (Metal s) ≡ true → t ≡ Shapes
+shape-turn Before s e = absurd (false≢true e)
+shape-turn Shapes s e = refl
+shape-turn Fills s e = absurd (false≢true e)
+shape-turn Done s e = absurd (false≢true e)
 
 -- what is in turn and no head comes after the head
 pub after-head : (t : Turn) (f : Form) → inTurn t f ≡ true → ((h : Head) → f ≡ Heading h → ⊥) → t ≡ Before → ⊥
 after-head Before Unknown e n b = absurd (false≢true e)
 after-head Before (Heading h) e n b = n h refl
-after-head Before (Shape r) e n b = absurd (false≢true e)
+after-head Before (Metal s) e n b = absurd (false≢true e)
 after-head Before (Fill i j p) e n b = absurd (false≢true e)
 after-head Before End e n b = absurd (false≢true e)
 after-head Shapes f e n b = let z : _≡_ {A = ℕ} 0 1 = cc in omega arith
@@ -89,25 +90,28 @@ after-heading st h g =
       fillable = λ i j hi hj. omega (arith, getD-zeros (tileCount h) (tileIndex (tilesAcross h) i j));
     }
 
-after-shape : (st : Standing) (r : Rect) → Sound st → NoFault unitLimits st (Shape r) → Sound (standsAfter st (Shape r))
+after-shape : (st : Standing) (s : Shape) → Sound st → NoFault unitLimits st (Metal s) → Sound (standsAfter st (Metal s))
 unfolding standsAfter
-after-shape st r s g =
+after-shape st s k g =
     record {
       start = not-before;
-      headed = λ n. s .headed (after-head (st .turn) (Shape r) (g .turn) (λ h e. let z : _≡_ {A = ℕ} 0 1 = cc in omega arith));
-      few = omega (arith, length-append (st .shapes) (r ∷ []), k .room);
-      good = good-more (st .head) (st .shapes) r (s .good) (g .range) (k .fits);
-      apart = disjoint-more (st .shapes) r (s .apart) (shares-none (st .shapes) r (k .free));
-      sized = s .sized;
+      headed = λ n. k .headed (after-head (st .turn) (Metal s) (g .turn) (λ h e. let z : _≡_ {A = ℕ} 0 1 = cc in omega arith));
+      few = omega (arith, length-append (st .shapes) (s ∷ []), f .room);
+      good = rw more (good-more (st .head) (rectangles (st .shapes)) (s .rect) (k .good) (g .range) (f .fits));
+      apart = rw more (disjoint-more (rectangles (st .shapes)) (s .rect) (k .apart) (shares-none (rectangles (st .shapes)) (s .rect) (f .free)));
+      sized = k .sized;
       unfilled = λ e. none;
       fillable = λ i j hi hj. omega (arith, ap (λ (l : List ℕ). numberAt l (tilesAcross (st .head)) i j) none, getD-zeros (tileCount (st .head)) (tileIndex (tilesAcross (st .head)) i j));
     }
   where
-    k : NoShapeFault unitLimits st r
-    k = no-shape-fault unitLimits st r (g .own)
+    f : NoShapeFault unitLimits st (s .rect)
+    f = no-shape-fault unitLimits st (s .rect) (g .own)
+
+    more : rectangles (st .shapes ++ (s ∷ [])) ≡ rectangles (st .shapes) ++ (s .rect ∷ [])
+    more = map-append (λ (t : Shape). t .rect) (st .shapes) (s ∷ [])
 
     none : st .amounts ≡ replicate (tileCount (st .head)) 0
-    none = s .unfilled (shape-turn (st .turn) r (g .turn))
+    none = k .unfilled (shape-turn (st .turn) s (g .turn))
 
 after-fill : (st : Standing) (i j p : ℕ) → Sound st → NoFault unitLimits st (Fill i j p) → Sound (standsAfter st (Fill i j p))
 unfolding standsAfter
@@ -121,12 +125,12 @@ after-fill st i j p s g =
       sized = length-set (st .amounts) (tileIndex (tilesAcross (st .head)) i j) p ∙ s .sized;
       unfilled = λ e. let z : _≡_ {A = ℕ} 0 1 = cc in absurd (omega arith);
       fillable = λ u v hu hv.
-          amount-set (tilesAcross (st .head)) (st .amounts) i j p u v (λ a b. fillableArea (st .head .gap) (st .shapes) (tile (tileSide (st .head)) a b))
+          amount-set (tilesAcross (st .head)) (st .amounts) i j p u v (roomOf st)
           (s .sized) (k .column) (k .row) hu hv (k .fits) (s .fillable u v hu hv);
     }
   where
-    k : NoFillFault st i j p
-    k = no-fill-fault st i j p (g .own)
+    k : NoFillFault (st .head) (st .amounts) (roomOf st i j) i j p
+    k = no-fill-fault (st .head) (st .amounts) (roomOf st i j) i j p (g .own)
 
 after-end : (st : Standing) → Sound st → NoFault unitLimits st End → Sound (standsAfter st End)
 unfolding standsAfter
@@ -145,7 +149,7 @@ after-end st s g =
 sound-next : (st : Standing) (f : Form) → Sound st → NoFault unitLimits st f → Sound (standsAfter st f)
 sound-next st Unknown s g = absurd (false≢true (g .spelled))
 sound-next st (Heading h) s g = after-heading st h g
-sound-next st (Shape r) s g = after-shape st r s g
+sound-next st (Metal m) s g = after-shape st m s g
 sound-next st (Fill i j p) s g = after-fill st i j p s g
 sound-next st End s g = after-end st s g
 

@@ -14,12 +14,21 @@ use Rattle.spelling.specs.Decimal.{decimal, EachShort, isDigit}
 use Rattle.spelling.specs.Pattern.{isPlace, spell, readAs}
 use Rattle.spelling.specs.Scanning.{places}
 use Rattle.spelling.proofs.Numerals.{allDigits, digit-from, all-decimal}
-use Rattle.spelling.proofs.Patterns.{spell-place, spell-byte, read-same, read-other}
+use Rattle.spelling.proofs.Patterns.{spell-place, spell-byte}
 use Rattle.spelling.proofs.Inverse.{Spelled, read-is-spelled, wellFormed, spelled-is-read}
+use Rattle.spelling.proofs.Clashes.{clash, clash-none}
+use Rattle.geometry.specs.declared.Rect.{Rect}
 use Rattle.jobfile.specs.declared.Form.{Form}
-use Rattle.jobfile.specs.declared.Form.the-variants.{Unknown, Heading, Shape, Fill, End}
+use Rattle.jobfile.specs.declared.Form.the-variants.{Unknown, Heading, Metal, Fill, End}
+use Rattle.jobfile.specs.declared.Gap.{Gap}
+use Rattle.jobfile.specs.declared.Gap.the-variants.{Both, Each}
+use Rattle.jobfile.specs.declared.Head.{Head}
+use Rattle.jobfile.specs.declared.Kind.{Kind}
+use Rattle.jobfile.specs.declared.Kind.the-variants.{Drawn, Dummy}
 use Rattle.jobfile.specs.Limits.{Limits}
-use Rattle.jobfile.specs.Forms.{headPattern, rectPattern, fillPattern, endPattern, headingForm, shapeForm, fillForm, endForm, formIf, formOf}
+use Rattle.jobfile.specs.Shapes.{withGap}
+use Rattle.jobfile.specs.Forms.{oneGapPattern, twoGapsPattern, headPattern, rectPattern, dummyPattern, shapePattern, fillPattern, endPattern}
+use Rattle.jobfile.specs.Forms.{oneGapForm, twoGapsForm, shapeForm, fillForm, endForm, formIf, laterForm, bodyForm, formOf}
 use Rattle.jobfile.specs.Faults.{known}
 use Rattle.jobfile.specs.Acceptance.{numbersOf, spellingOf, Spells, feedless}
 
@@ -63,66 +72,92 @@ module _ (m : Limits) where
   as-form : (p line : List ℕ) (f : Form) → known f ≡ true → spellingOf f ≡ spell p (numbersOf f) → SpelledBy (m .digits) p line (numbersOf f) → Spells m line f
   as-form p line f e same k = record { is-known = e; spelling = k .spelling ∙ sym same; short = k .short }
 
-  pub form-spelled : (line : List ℕ) → known (formOf m line) ≡ true → Spells m line (formOf m line)
-  unfolding formOf spellingOf places bytes headPattern rectPattern fillPattern endPattern
-  form-spelled line =
-      if-read (m .digits) headPattern line headingForm _ (SpelledAs line)
-      (λ ns k e. as-form headPattern line (headingForm ns) refl refl (spelled-by (m .digits) headPattern line ns 8 refl k))
-      (if-read (m .digits) rectPattern line shapeForm _ (SpelledAs line)
-      (λ ns k e. as-form rectPattern line (shapeForm ns) refl refl (spelled-by (m .digits) rectPattern line ns 4 refl k))
-      (if-read (m .digits) fillPattern line fillForm _ (SpelledAs line)
+  -- the head's spelling and a shape's, by the gap and by the kind
+  one-gap-spelled : (line ns : List ℕ) → Spelled (m .digits) oneGapPattern line ns → SpelledAs line (oneGapForm ns)
+  unfolding spellingOf places bytes oneGapPattern
+  one-gap-spelled line ns k e = as-form oneGapPattern line (oneGapForm ns) refl refl (spelled-by (m .digits) oneGapPattern line ns 8 refl k)
+
+  two-gaps-spelled : (line ns : List ℕ) → Spelled (m .digits) twoGapsPattern line ns → SpelledAs line (twoGapsForm ns)
+  unfolding spellingOf places bytes twoGapsPattern
+  two-gaps-spelled line ns k e = as-form twoGapsPattern line (twoGapsForm ns) refl refl (spelled-by (m .digits) twoGapsPattern line ns 9 refl k)
+
+  later-spelled : (line : List ℕ) → SpelledAs line (laterForm m line)
+  unfolding spellingOf places bytes fillPattern endPattern
+  later-spelled line =
+      if-read (m .digits) fillPattern line fillForm _ (SpelledAs line)
       (λ ns k e. as-form fillPattern line (fillForm ns) refl refl (spelled-by (m .digits) fillPattern line ns 3 refl k))
       (if-read (m .digits) endPattern line endForm Unknown (SpelledAs line)
       (λ ns k e. as-form endPattern line (endForm ns) refl refl (spelled-by (m .digits) endPattern line ns 0 refl k))
-      (λ e. absurd (false≢true e)))))
+      (λ e. absurd (false≢true e)))
+
+  body-spelled : (line : List ℕ) → SpelledAs line (bodyForm m line)
+  unfolding spellingOf places bytes rectPattern dummyPattern
+  body-spelled line =
+      if-read (m .digits) rectPattern line (shapeForm Drawn) _ (SpelledAs line)
+      (λ ns k e. as-form rectPattern line (shapeForm Drawn ns) refl refl (spelled-by (m .digits) rectPattern line ns 4 refl k))
+      (if-read (m .digits) dummyPattern line (shapeForm Dummy) _ (SpelledAs line)
+      (λ ns k e. as-form dummyPattern line (shapeForm Dummy ns) refl refl (spelled-by (m .digits) dummyPattern line ns 4 refl k))
+      (later-spelled line))
+
+  pub form-spelled : (line : List ℕ) → known (formOf m line) ≡ true → Spells m line (formOf m line)
+  unfolding formOf
+  form-spelled line =
+      if-read (m .digits) oneGapPattern line oneGapForm _ (SpelledAs line) (one-gap-spelled line)
+      (if-read (m .digits) twoGapsPattern line twoGapsForm _ (SpelledAs line) (two-gaps-spelled line) (body-spelled line))
 
 -- ---- what is spelled so is read
 
--- two patterns that differ in a byte before any number
-unfoldable clash : List ℕ → List ℕ → Bool
-clash [] q = false
-clash (c ∷ p) [] = false
-clash (c ∷ p) (d ∷ q) = (not (isPlace c) && not (isPlace d)) && elim (eqb d c) [ true ↦ clash p q | false ↦ true ]
-
--- do not read each other's spellings
-clash-none : (most : ℕ) (p q ns : List ℕ) → clash p q ≡ true → readAs most p (spell q ns) ≡ none
-unfolding clash
-clash-none most [] q ns e = absurd (false≢true e)
-clash-none most (c ∷ p) [] ns e = absurd (false≢true e)
-clash-none most (c ∷ p) (d ∷ q) ns e = rw (spell-byte d q (not-true (isPlace d) (b .1)) ns) (go (eqb d c) refl (k .1) (clash-none most p q ns))
-  where
-    k : ((not (isPlace c) && not (isPlace d)) ≡ true) × (elim (eqb d c) as (λ x. Bool) [ true ↦ clash p q | false ↦ true ] ≡ true)
-    k = both (not (isPlace c) && not (isPlace d)) (elim (eqb d c) as (λ x. Bool) [ true ↦ clash p q | false ↦ true ]) e
-
-    b : (not (isPlace c) ≡ true) × (not (isPlace d) ≡ true)
-    b = both (not (isPlace c)) (not (isPlace d)) (k .0)
-
-    go : (x : Bool) → eqb d c ≡ x → elim x as (λ y. Bool) [ true ↦ clash p q | false ↦ true ] ≡ true → (clash p q ≡ true → readAs most p (spell q ns) ≡ none) →
-        readAs most (c ∷ p) (d ∷ spell q ns) ≡ none
-    go true h t ih = read-same c p (not-true (isPlace c) (b .0)) most d (spell q ns) (eqb-true d c h) ∙ ih t
-    go false h t ih = read-other c p (not-true (isPlace c) (b .0)) most d (spell q ns) (eqb-false d c h)
-
 module _ (m : Limits) where
-  pub spelling-read : (f : Form) → known f ≡ true → EachShort (m .digits) (numbersOf f) → formOf m (spellingOf f) ≡ f
-  unfolding formOf spellingOf clash places wellFormed bytes headPattern rectPattern fillPattern endPattern
-  spelling-read Unknown k b = absurd (false≢true k)
-  spelling-read (Heading h) k b = rw (spelled-is-read (m .digits) headPattern (numbersOf (Heading h)) refl refl b)
-  spelling-read (Shape r) k b =
+  abbrev Short : Form → Type 0
+  Short f = EachShort (m .digits) (numbersOf f)
+
+  -- by the gaps of a head, and by the kind of a shape
+  heading-read : (h : Head) (g : Gap) → Short (Heading (withGap h g)) → formOf m (spellingOf (Heading (withGap h g))) ≡ Heading (withGap h g)
+  unfolding formOf spellingOf clash places wellFormed bytes oneGapPattern twoGapsPattern
+  heading-read h (Both b) s = rw (spelled-is-read (m .digits) oneGapPattern (numbersOf (Heading (withGap h (Both b)))) refl refl s)
+  heading-read h (Each b d) s =
       rw (
-        clash-none (m .digits) headPattern rectPattern (numbersOf (Shape r)) refl,
-        spelled-is-read (m .digits) rectPattern (numbersOf (Shape r)) refl refl b,
+        clash-none (m .digits) oneGapPattern twoGapsPattern (numbersOf (Heading (withGap h (Each b d)))) refl refl s,
+        spelled-is-read (m .digits) twoGapsPattern (numbersOf (Heading (withGap h (Each b d)))) refl refl s,
       )
+
+  shape-read : (k : Kind) (r : Rect) → Short (Metal (record { kind = k; rect = r })) →
+      formOf m (spellingOf (Metal (record { kind = k; rect = r }))) ≡ Metal (record { kind = k; rect = r })
+  unfolding formOf spellingOf clash places wellFormed bytes oneGapPattern twoGapsPattern rectPattern dummyPattern
+  shape-read Drawn r s =
+      rw (
+        clash-none (m .digits) oneGapPattern rectPattern (numbersOf (Metal (record { kind = Drawn; rect = r }))) refl refl s,
+        clash-none (m .digits) twoGapsPattern rectPattern (numbersOf (Metal (record { kind = Drawn; rect = r }))) refl refl s,
+        spelled-is-read (m .digits) rectPattern (numbersOf (Metal (record { kind = Drawn; rect = r }))) refl refl s,
+      )
+  shape-read Dummy r s =
+      rw (
+        clash-none (m .digits) oneGapPattern dummyPattern (numbersOf (Metal (record { kind = Dummy; rect = r }))) refl refl s,
+        clash-none (m .digits) twoGapsPattern dummyPattern (numbersOf (Metal (record { kind = Dummy; rect = r }))) refl refl s,
+        clash-none (m .digits) rectPattern dummyPattern (numbersOf (Metal (record { kind = Dummy; rect = r }))) refl refl s,
+        spelled-is-read (m .digits) dummyPattern (numbersOf (Metal (record { kind = Dummy; rect = r }))) refl refl s,
+      )
+
+  pub spelling-read : (f : Form) → known f ≡ true → EachShort (m .digits) (numbersOf f) → formOf m (spellingOf f) ≡ f
+  unfolding formOf spellingOf clash places wellFormed bytes oneGapPattern twoGapsPattern rectPattern dummyPattern fillPattern endPattern
+  spelling-read Unknown k b = absurd (false≢true k)
+  spelling-read (Heading h) k b = heading-read h (h .gap) b
+  spelling-read (Metal s) k b = shape-read (s .kind) (s .rect) b
   spelling-read (Fill i j p) k b =
       rw (
-        clash-none (m .digits) headPattern fillPattern (numbersOf (Fill i j p)) refl,
-        clash-none (m .digits) rectPattern fillPattern (numbersOf (Fill i j p)) refl,
+        clash-none (m .digits) oneGapPattern fillPattern (numbersOf (Fill i j p)) refl refl b,
+        clash-none (m .digits) twoGapsPattern fillPattern (numbersOf (Fill i j p)) refl refl b,
+        clash-none (m .digits) rectPattern fillPattern (numbersOf (Fill i j p)) refl refl b,
+        clash-none (m .digits) dummyPattern fillPattern (numbersOf (Fill i j p)) refl refl b,
         spelled-is-read (m .digits) fillPattern (numbersOf (Fill i j p)) refl refl b,
       )
   spelling-read End k b =
       rw (
-        clash-none (m .digits) headPattern endPattern [] refl,
-        clash-none (m .digits) rectPattern endPattern [] refl,
-        clash-none (m .digits) fillPattern endPattern [] refl,
+        clash-none (m .digits) oneGapPattern endPattern [] refl refl b,
+        clash-none (m .digits) twoGapsPattern endPattern [] refl refl b,
+        clash-none (m .digits) rectPattern endPattern [] refl refl b,
+        clash-none (m .digits) dummyPattern endPattern [] refl refl b,
+        clash-none (m .digits) fillPattern endPattern [] refl refl b,
         spelled-is-read (m .digits) endPattern [] refl refl b,
       )
 
@@ -163,10 +198,20 @@ feedless-spell (c ∷ p) (n ∷ ns) a =
     go false e f ih = rw (spell-byte c p e (n ∷ ns)) (feedless-cons c (spell p (n ∷ ns)) f (ih (n ∷ ns)))
 
 -- a form's spelling has none
+heading-feedless : (g : Gap) (ns : List ℕ) → feedless (spell (headPattern g) ns) ≡ true
+unfolding feedless bytes oneGapPattern twoGapsPattern
+heading-feedless (Both b) ns = feedless-spell oneGapPattern ns refl
+heading-feedless (Each b d) ns = feedless-spell twoGapsPattern ns refl
+
+shape-feedless : (k : Kind) (ns : List ℕ) → feedless (spell (shapePattern k) ns) ≡ true
+unfolding feedless bytes rectPattern dummyPattern
+shape-feedless Drawn ns = feedless-spell rectPattern ns refl
+shape-feedless Dummy ns = feedless-spell dummyPattern ns refl
+
 pub spelling-feedless : (f : Form) → feedless (spellingOf f) ≡ true
-unfolding feedless spellingOf bytes headPattern rectPattern fillPattern endPattern
+unfolding feedless spellingOf bytes fillPattern endPattern
 spelling-feedless Unknown = refl
-spelling-feedless (Heading h) = feedless-spell headPattern (numbersOf (Heading h)) refl
-spelling-feedless (Shape r) = feedless-spell rectPattern (numbersOf (Shape r)) refl
+spelling-feedless (Heading h) = heading-feedless (h .gap) (numbersOf (Heading h))
+spelling-feedless (Metal s) = shape-feedless (s .kind) (numbersOf (Metal s))
 spelling-feedless (Fill i j p) = feedless-spell fillPattern (numbersOf (Fill i j p)) refl
 spelling-feedless End = feedless-spell endPattern [] refl

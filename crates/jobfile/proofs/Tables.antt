@@ -1,26 +1,22 @@
--- Tables of rectangles, four numbers each: one more at the end, and back to the list of rectangles.
+-- Tables of rectangles, four numbers each, and back to the list of rectangles; and tables of zeros.
 use Prim.Native.Nat.{ℕ, zero, suc, _+_, _*_, _-_, _≤_}
 use mathlib.Core.Path.{_≡_, refl, sym, ap, _∙_}
 use mathlib.Core.Bool.{true, _&&_}
 use mathlib.Core.List.{List, [], _∷_, _++_}
-use native.Mathlib.Omega.{arith}
-use native.Mathlib.Numerals.{add-one, add-two, add-three}
 use native.Mathlib.Nat.{le-trans}
+use native.Mathlib.Omega.{arith}
 use lib.Dec.{lit≤}
-use lib.ListN.{length, getD, take, drop, replicate, length-append}
-use lib.Seq.{take-at, drop-at, drop-drop, sets-eq, length-sets, length-take-le}
+use lib.ListN.{length, getD, take, drop, replicate}
+use lib.Seq.{drop-drop}
 use Rattle.laws.proofs.Tests.{both}
 use Rattle.geometry.specs.declared.Rect.{Rect}
-use Rattle.geometry.specs.Layout.{rectsOf, Disjoint, Drawn}
-use Rattle.geometry.proofs.Tables.{rects-more}
+use Rattle.geometry.specs.Layout.{rectsOf, Disjoint, Layer}
+use Rattle.geometry.proofs.Tables.{fourOf}
 use Rattle.jobfile.specs.declared.Head.{Head}
 use Rattle.jobfile.specs.Limits.{Limits, unitLimits}
 use Rattle.jobfile.specs.Forms.{inSpan, rectInRange}
-use Rattle.jobfile.specs.Held.{shapesRoom, GoodShapes, withShape, tableOf}
+use Rattle.jobfile.specs.Held.{GoodShapes, tableOf}
 use Rattle.jobfile.proofs.Heads.{Between, between}
-
-abbrev pub fourOf : Rect → List ℕ
-fourOf r = r .x1 ∷ r .y1 ∷ r .x2 ∷ r .y2 ∷ []
 
 -- ---- a table of n rectangles
 
@@ -48,28 +44,10 @@ unfolding rectsOf tableOf
 rects-of-table [] = refl
 rects-of-table (r ∷ rs) = ap (λ (qs : List Rect). r ∷ qs) (rects-of-table rs)
 
--- ---- a table with room behind its rectangles
-
-module _ (l : List ℕ) (c : ℕ) (r : Rect) (h : 4 * c + 4 ≤ length l) where
-  next : 4 * suc c ≡ 4 * c + 4
-  next = omega arith
-
-  split : withShape l c r ≡ take (4 * c) l ++ fourOf r ++ drop (4 * suc c) l
-  split = rw (next, add-one, add-two, add-three) (sets-eq (fourOf r) l (4 * c) h)
-
-  front : length (take (4 * c) l ++ fourOf r) ≡ 4 * suc c
-  front = omega (arith, length-append (take (4 * c) l) (fourOf r), length-take-le (4 * c) l (omega arith))
-
-  pub stored-rects : rectsOf (take (4 * suc c) (withShape l c r)) ≡ rectsOf (take (4 * c) l) ++ (r ∷ [])
-  stored-rects =
-      ap rectsOf (ap (take (4 * suc c)) split ∙ take-at (take (4 * c) l ++ fourOf r) (drop (4 * suc c) l) (4 * suc c) front)
-      ∙ rects-more c (take (4 * c) l) (r .x1) (r .y1) (r .x2) (r .y2) (length-take-le (4 * c) l (omega arith))
-
-  pub stored-behind : drop (4 * suc c) (withShape l c r) ≡ drop (4 * suc c) l
-  stored-behind = ap (drop (4 * suc c)) split ∙ drop-at (take (4 * c) l ++ fourOf r) (drop (4 * suc c) l) (4 * suc c) front
-
-  pub stored-length : length (withShape l c r) ≡ length l
-  stored-length = rw (add-one, add-two, add-three) (length-sets l (4 * c) (fourOf r))
+pub table-more : (rs : List Rect) (r : Rect) → tableOf (rs ++ (r ∷ [])) ≡ tableOf rs ++ fourOf r
+unfolding tableOf
+table-more [] r = refl
+table-more (q ∷ rs) r = ap (λ (t : List ℕ). q .x1 ∷ q .y1 ∷ q .x2 ∷ q .y2 ∷ t) (table-more rs r)
 
 -- ---- zeros
 
@@ -132,18 +110,11 @@ table-small h (r ∷ rs) g (suc (suc zero)) = corners unitLimits r (g .0) .right
 table-small h (r ∷ rs) g (suc (suc (suc zero))) = corners unitLimits r (g .0) .high .most
 table-small h (r ∷ rs) g (suc (suc (suc (suc i)))) = table-small h rs (g .2) i
 
--- the rectangles so far are a drawn table
-pub drawn-so-far : (h : Head) (l : List ℕ) (c : ℕ) → 4 * c ≤ shapesRoom → length l ≡ shapesRoom → GoodShapes h (rectsOf (take (4 * c) l)) →
-    Disjoint (rectsOf (take (4 * c) l)) → Drawn (take (4 * c) l)
-drawn-so-far h l c n e g d =
+-- the table of good rectangles is that of a layer
+pub table-layer : (h : Head) (rs : List Rect) → GoodShapes h rs → Disjoint rs → length rs ≤ unitLimits .shapes → Layer (tableOf rs)
+table-layer h rs g d l =
     record {
-      few = omega (arith, whole);
-      small = λ i. le-trans (rw table at (table-small h (rectsOf (take (4 * c) l)) g i)) (lit≤ tt);
-      apart = d;
+      few = omega (arith, length-table rs);
+      small = λ i. le-trans (table-small h rs g i) (lit≤ tt);
+      apart = rw (rects-of-table rs) d;
     }
-  where
-    whole : length (take (4 * c) l) ≡ 4 * c
-    whole = length-take-le (4 * c) l (omega arith)
-
-    table : tableOf (rectsOf (take (4 * c) l)) ≡ take (4 * c) l
-    table = table-of-rects c (take (4 * c) l) whole

@@ -12,13 +12,16 @@ use Rattle.laws.proofs.Tests.{both}
 use Rattle.geometry.specs.declared.Rect.{Rect}
 use Rattle.jobfile.specs.declared.Head.{Head}
 use Rattle.jobfile.specs.declared.Form.{Form}
-use Rattle.jobfile.specs.declared.Form.the-variants.{Unknown, Heading, Shape, Fill, End}
+use Rattle.jobfile.specs.declared.Form.the-variants.{Unknown, Heading, Metal, Fill, End}
+use Rattle.jobfile.specs.declared.Gap.{Gap}
+use Rattle.jobfile.specs.declared.Gap.the-variants.{Both, Each}
+use Rattle.jobfile.specs.declared.Kind.the-variants.{Drawn, Dummy}
 use Rattle.jobfile.specs.Limits.{Limits, Widened}
-use Rattle.jobfile.specs.Forms.{inSpan, headInRange, rectInRange, fillInRange, inRange, tileSide, tilesAcross, agrees}
+use Rattle.jobfile.specs.Forms.{inSpan, gapInRange, headInRange, rectInRange, fillInRange, inRange, tileSide, tilesAcross, agrees}
 use Rattle.jobfile.specs.Faults.{Standing, lineFault, ownFault}
 use Rattle.jobfile.specs.Acceptance.{numbersOf, Good, none, next, AcceptedFile, Widening}
 use Rattle.jobfile.proofs.Faultless.{check-passes, no-fault, faultless, no-shape-fault, shape-faultless}
-use Rattle.jobfile.proofs.Heads.{Between, between, ranges}
+use Rattle.jobfile.proofs.Heads.{Between, between, gap-between, ranges}
 use Rattle.jobfile.proofs.Tables.{corners}
 use Rattle.jobfile.proofs.Files.{acceptance}
 
@@ -31,6 +34,14 @@ wider : (lo hi n : ℕ) {most : ℕ} → most ≤ hi → Between lo most n → i
 wider lo hi n h b = rw (le-leb lo n (b .least), le-leb n hi (le-trans (b .most) h))
 
 module _ (old new : Limits) (w : Widened old new) where
+  gap-range : (g : Gap) → gapInRange old g ≡ true → gapInRange new g ≡ true
+  gap-range (Both b) e = wider 0 (new .side) b (w .side) (between 0 (old .side) b e)
+  gap-range (Each b d) e =
+      rw (
+        wider 0 (new .side) b (w .side) (gap-between old (Each b d) Drawn e),
+        wider 0 (new .side) d (w .side) (gap-between old (Each b d) Dummy e),
+      )
+
   head-range : (h : Head) → headInRange old h ≡ true → headInRange new h ≡ true
   head-range h e =
       let r = ranges old h e in
@@ -38,7 +49,7 @@ module _ (old new : Limits) (w : Widened old new) where
         wider 1 (new .side) (h .size) (w .side) (r .size),
         wider 1 (new .side) (h .window) (w .side) (r .window),
         wider 1 (new .tiles) (h .cut) (w .tiles) (r .cut),
-        wider 0 (new .side) (h .gap) (w .side) (r .gap),
+        gap-range (h .gap) (r .gap),
         wider 0 (new .bound) (h .lower) (w .bound) (r .lower),
         wider 0 (new .bound) (h .upper) (w .bound) (r .upper),
         wider 0 (new .accuracy) (h .accuracy) (w .accuracy) (r .accuracy),
@@ -69,7 +80,7 @@ module _ (old new : Limits) (w : Widened old new) where
   range : (f : Form) → inRange old f ≡ true → inRange new f ≡ true
   range Unknown e = e
   range (Heading h) e = head-range h e
-  range (Shape r) e = rect-range r e
+  range (Metal s) e = rect-range (s .rect) e
   range (Fill i j p) e = fill-range i j p e
   range End e = e
 
@@ -83,9 +94,9 @@ module _ (old new : Limits) (w : Widened old new) where
   own : (st : Standing) (f : Form) → ownFault old st f ≡ 0 → ownFault new st f ≡ 0
   own st Unknown e = e
   own st (Heading h) e = rw (agree h (check-passes (agrees old h) 5 0 (lit< tt) e .0))
-  own st (Shape r) e =
-      let g = no-shape-fault old st r e in
-      shape-faultless new st r (record { fits = g .fits; room = le-trans (g .room) (w .shapes); free = g .free })
+  own st (Metal s) e =
+      let g = no-shape-fault old st (s .rect) e in
+      shape-faultless new st (s .rect) (record { fits = g .fits; room = le-trans (g .room) (w .shapes); free = g .free })
   own st (Fill i j p) e = e
   own st End e = e
 

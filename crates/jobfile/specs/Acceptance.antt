@@ -9,28 +9,35 @@ use lib.ListN.{length}
 use Rattle.spelling.specs.Decimal.{EachShort}
 use Rattle.spelling.specs.Pattern.{spell}
 use Rattle.jobfile.specs.declared.Form.{Form}
-use Rattle.jobfile.specs.declared.Form.the-variants.{Unknown, Heading, Shape, Fill, End}
+use Rattle.jobfile.specs.declared.Form.the-variants.{Unknown, Heading, Metal, Fill, End}
+use Rattle.jobfile.specs.declared.Gap.{Gap}
+use Rattle.jobfile.specs.declared.Gap.the-variants.{Both, Each}
 use Rattle.jobfile.specs.declared.Turn.the-variants.{Done}
 use Rattle.jobfile.specs.Limits.{Limits, Widened}
-use Rattle.jobfile.specs.Forms.{headPattern, rectPattern, fillPattern, endPattern}
+use Rattle.jobfile.specs.Forms.{headPattern, shapePattern, fillPattern, endPattern}
 use Rattle.jobfile.specs.Faults.{Standing, beforeHead, known, lineFault, standsAfter}
 use Rattle.jobfile.specs.File.{refused, accepted, outcomeOf}
 
 -- ---- the spelling of a form
 
+-- the gaps, in front of the numbers that follow them
+abbrev pub gapNumbers : Gap → List ℕ → List ℕ
+gapNumbers (Both b) ns = b ∷ ns
+gapNumbers (Each b d) ns = b ∷ d ∷ ns
+
 -- the numbers of a form, in the order of its spelling
 abbrev pub numbersOf : Form → List ℕ
 numbersOf Unknown = []
-numbersOf (Heading h) = h .size ∷ h .window ∷ h .cut ∷ h .gap ∷ h .lower ∷ h .upper ∷ h .accuracy ∷ h .levels ∷ []
-numbersOf (Shape r) = r .x1 ∷ r .y1 ∷ r .x2 ∷ r .y2 ∷ []
+numbersOf (Heading h) = h .size ∷ h .window ∷ h .cut ∷ gapNumbers (h .gap) (h .lower ∷ h .upper ∷ h .accuracy ∷ h .levels ∷ [])
+numbersOf (Metal s) = s .rect .x1 ∷ s .rect .y1 ∷ s .rect .x2 ∷ s .rect .y2 ∷ []
 numbersOf (Fill i j p) = i ∷ j ∷ p ∷ []
 numbersOf End = []
 
 -- the spelling of a form, without the line feed; a line that is none of the spellings has none
 unfoldable pub spellingOf : Form → List ℕ
 spellingOf Unknown = []
-spellingOf (Heading h) = spell headPattern (numbersOf (Heading h))
-spellingOf (Shape r) = spell rectPattern (numbersOf (Shape r))
+spellingOf (Heading h) = spell (headPattern (h .gap)) (numbersOf (Heading h))
+spellingOf (Metal s) = spell (shapePattern (s .kind)) (numbersOf (Metal s))
 spellingOf (Fill i j p) = spell fillPattern (numbersOf (Fill i j p))
 spellingOf End = spell endPattern []
 

@@ -10,21 +10,24 @@ use Rattle.fill.specs.Eligible.{tile, fillableArea}
 use Rattle.fill.specs.Judge.{tileIndex, numberAt}
 use Rattle.jobfile.specs.declared.Head.{Head}
 use Rattle.jobfile.specs.declared.Form.{Form}
-use Rattle.jobfile.specs.declared.Form.the-variants.{Unknown, Heading, Shape, Fill, End}
+use Rattle.jobfile.specs.declared.Form.the-variants.{Unknown, Heading, Metal, Fill, End}
+use Rattle.jobfile.specs.declared.Gap.the-variants.{Both}
+use Rattle.jobfile.specs.declared.Shape.{Shape}
 use Rattle.jobfile.specs.declared.Turn.{Turn}
 use Rattle.jobfile.specs.declared.Turn.the-variants.{Before, Shapes, Fills, Done}
 use Rattle.jobfile.specs.Limits.{Limits}
+use Rattle.jobfile.specs.Shapes.{rectangles, keepouts}
 use Rattle.jobfile.specs.Forms.{inRange, tileSide, tilesAcross, agrees}
 
--- what already stands: the turn, the head, the rectangles in file order, the amounts row by row
+-- what already stands: the turn, the head, the shapes in file order, the amounts row by row
 pub record Standing : Type 0 where
   pub turn : Turn
   pub head : Head
-  pub shapes : List Rect
+  pub shapes : List Shape
   pub amounts : List ℕ
 
 abbrev pub noHead : Head
-noHead = record { size = 0; window = 0; cut = 0; gap = 0; lower = 0; upper = 0; accuracy = 0; levels = 0 }
+noHead = record { size = 0; window = 0; cut = 0; gap = Both 0; lower = 0; upper = 0; accuracy = 0; levels = 0 }
 
 -- what stands before the first line
 abbrev pub beforeHead : Standing
@@ -34,7 +37,7 @@ beforeHead = record { turn = Before; head = noHead; shapes = []; amounts = [] }
 abbrev pub rankOf : Form → ℕ
 rankOf Unknown = 0
 rankOf (Heading h) = 1
-rankOf (Shape r) = 2
+rankOf (Metal s) = 2
 rankOf (Fill i j p) = 3
 rankOf End = 4
 
@@ -42,7 +45,7 @@ rankOf End = 4
 abbrev pub known : Form → Bool
 known f = ltb 0 (rankOf f)
 
--- whether a form comes in turn: the head first and once, then rectangles, then fills, then the end, and nothing after it
+-- whether a form comes in turn: the head first and once, then shapes, then fills, then the end, and nothing after it
 abbrev pub inTurn : Turn → Form → Bool
 inTurn Before f = eqb (rankOf f) 1
 inTurn Shapes f = leb 2 (rankOf f)
@@ -57,34 +60,38 @@ check passes fault next = elim passes [ true ↦ next | false ↦ fault ]
 abbrev pub fitsLayout : Head → Rect → Bool
 fitsLayout h r = (ltb (r .x1) (r .x2) && ltb (r .y1) (r .y2)) && (leb (r .x2) (h .size) && leb (r .y2) (h .size))
 
--- the faults of a rectangle
+-- the faults of a shape of either kind
 unfoldable pub shapeFault : Limits → Standing → Rect → ℕ
 shapeFault limits st r =
     -- 6: X1 ≥ X2 or Y1 ≥ Y2, or X2 or Y2 exceeds N
     check (fitsLayout (st .head) r) 6
-    -- 8: as many rectangles as are allowed stand already
+    -- 8: as many shapes as are allowed stand already
     (check (ltb (length (st .shapes)) (limits .shapes)) 8
     -- 9: it shares a unit square with one that stands
-    (check (not (sharesSquare (st .shapes) r)) 9
+    (check (not (sharesSquare (rectangles (st .shapes)) r)) 9
     0))
 
--- the faults of a fill
-unfoldable pub fillFault : Standing → (i j p : ℕ) → ℕ
-fillFault st i j p =
+-- the fillable area of tile (i, j)
+abbrev pub roomOf : Standing → (i j : ℕ) → ℕ
+roomOf st i j = fillableArea (keepouts (st .head .gap) (st .shapes)) (tile (tileSide (st .head)) i j)
+
+-- the faults of a fill, where `room` is the tile's fillable area
+unfoldable pub fillFault : Head → (amounts : List ℕ) → (room i j p : ℕ) → ℕ
+fillFault h amounts room i j p =
     -- 7: I or J is not below N/(W/R)
-    check (ltb i (tilesAcross (st .head)) && ltb j (tilesAcross (st .head))) 7
+    check (ltb i (tilesAcross h) && ltb j (tilesAcross h)) 7
     -- 10: the tile has a fill already, which is an amount other than 0, since fault 3 refuses P = 0
-    (check (eqb (numberAt (st .amounts) (tilesAcross (st .head)) i j) 0) 10
+    (check (eqb (numberAt amounts (tilesAcross h) i j) 0) 10
     -- 11: P exceeds the tile's fillable area
-    (check (leb p (fillableArea (st .head .gap) (st .shapes) (tile (tileSide (st .head)) i j))) 11
+    (check (leb p room) 11
     0))
 
 -- the faults that a form of its own kind may have; 5: the head disagrees. An unknown form does not come here: `lineFault`
 abbrev pub ownFault : Limits → Standing → Form → ℕ
 ownFault limits st Unknown = 2
 ownFault limits st (Heading h) = check (agrees limits h) 5 0
-ownFault limits st (Shape r) = shapeFault limits st r
-ownFault limits st (Fill i j p) = fillFault st i j p
+ownFault limits st (Metal s) = shapeFault limits st (s .rect)
+ownFault limits st (Fill i j p) = fillFault (st .head) (st .amounts) (roomOf st i j) i j p
 ownFault limits st End = 0
 
 -- the lowest number of a fault that a line has, 0 for none: 2 none of the spellings, 3 out of range, 4 out of turn, then the others
@@ -95,7 +102,7 @@ lineFault limits st f = check (known f) 2 (check (inRange limits f) 3 (check (in
 unfoldable pub standsAfter : Standing → Form → Standing
 standsAfter st Unknown = st
 standsAfter st (Heading h) = record { turn = Shapes; head = h; shapes = []; amounts = replicate (tilesAcross h * tilesAcross h) 0 }
-standsAfter st (Shape r) = record { turn = Shapes; head = st .head; shapes = st .shapes ++ (r ∷ []); amounts = st .amounts }
+standsAfter st (Metal s) = record { turn = Shapes; head = st .head; shapes = st .shapes ++ (s ∷ []); amounts = st .amounts }
 standsAfter st (Fill i j p) =
     record { turn = Fills; head = st .head; shapes = st .shapes; amounts = set (st .amounts) (tileIndex (tilesAcross (st .head)) i j) p }
 standsAfter st End = record { turn = Done; head = st .head; shapes = st .shapes; amounts = st .amounts }

@@ -1,5 +1,6 @@
--- Document 01, "The job file": the four forms, how each is spelled, the ranges of their numbers under some limits.
-use Prim.Native.Nat.{ℕ, _-_, _/_, _%_}
+-- Document 01, "The job file", with the dummies of document 02's request 5: the forms, how each is spelled, the ranges of their numbers under some
+-- limits.
+use Prim.Native.Nat.{ℕ, _+_, _-_, _/_, _%_}
 use mathlib.Core.Bool.{Bool, true, _&&_}
 use mathlib.Core.List.{List}
 use mathlib.Core.Option.{Option, none, some}
@@ -11,15 +12,35 @@ use Rattle.spelling.specs.Text.{bytes}
 use Rattle.spelling.specs.Pattern.{readAs}
 use Rattle.jobfile.specs.declared.Head.{Head}
 use Rattle.jobfile.specs.declared.Form.{Form}
-use Rattle.jobfile.specs.declared.Form.the-variants.{Unknown, Heading, Shape, Fill, End}
+use Rattle.jobfile.specs.declared.Form.the-variants.{Unknown, Heading, Metal, Fill, End}
+use Rattle.jobfile.specs.declared.Gap.{Gap}
+use Rattle.jobfile.specs.declared.Gap.the-variants.{Both, Each}
+use Rattle.jobfile.specs.declared.Kind.{Kind}
+use Rattle.jobfile.specs.declared.Kind.the-variants.{Drawn, Dummy}
 use Rattle.jobfile.specs.Limits.{Limits}
 
 -- the spellings, without the line feed; each # is a number
-unfoldable pub headPattern : List ℕ
-headPattern = bytes "(job (size #) (window #) (cut #) (gap #) (bounds # #) (zoom # #))"
+unfoldable pub oneGapPattern : List ℕ
+oneGapPattern = bytes "(job (size #) (window #) (cut #) (gap #) (bounds # #) (zoom # #))"
+
+unfoldable pub twoGapsPattern : List ℕ
+twoGapsPattern = bytes "(job (size #) (window #) (cut #) (gap # #) (bounds # #) (zoom # #))"
+
+-- the head's, by what it says of gaps
+abbrev pub headPattern : Gap → List ℕ
+headPattern (Both b) = oneGapPattern
+headPattern (Each b d) = twoGapsPattern
 
 unfoldable pub rectPattern : List ℕ
 rectPattern = bytes "(rect # # # #)"
+
+unfoldable pub dummyPattern : List ℕ
+dummyPattern = bytes "(dummy # # # #)"
+
+-- a shape's, by its kind
+abbrev pub shapePattern : Kind → List ℕ
+shapePattern Drawn = rectPattern
+shapePattern Dummy = dummyPattern
 
 unfoldable pub fillPattern : List ℕ
 fillPattern = bytes "(fill # # #)"
@@ -30,11 +51,15 @@ endPattern = bytes "(end)"
 abbrev pub inSpan : (lo hi n : ℕ) → Bool
 inSpan lo hi n = leb lo n && leb n hi
 
--- the table of ranges
+-- the table of ranges; D has B's
+abbrev pub gapInRange : Limits → Gap → Bool
+gapInRange limits (Both b) = inSpan 0 (limits .side) b
+gapInRange limits (Each b d) = inSpan 0 (limits .side) b && inSpan 0 (limits .side) d
+
 abbrev pub headInRange : Limits → Head → Bool
 headInRange limits h =
     (inSpan 1 (limits .side) (h .size) && inSpan 1 (limits .side) (h .window))
-    && (inSpan 1 (limits .tiles) (h .cut) && inSpan 0 (limits .side) (h .gap))
+    && (inSpan 1 (limits .tiles) (h .cut) && gapInRange limits (h .gap))
     && (inSpan 0 (limits .bound) (h .lower) && inSpan 0 (limits .bound) (h .upper))
     && (inSpan 0 (limits .accuracy) (h .accuracy) && inSpan 1 (limits .levels) (h .levels))
 
@@ -48,7 +73,7 @@ fillInRange limits i j p = inSpan 0 (limits .tiles - 1) i && inSpan 0 (limits .t
 abbrev pub inRange : Limits → Form → Bool
 inRange limits Unknown = true
 inRange limits (Heading h) = headInRange limits h
-inRange limits (Shape r) = rectInRange limits r
+inRange limits (Metal s) = rectInRange limits (s .rect)
 inRange limits (Fill i j p) = fillInRange limits i j p
 inRange limits End = true
 
@@ -73,23 +98,29 @@ agrees limits h =
 
 -- ---- reading a line; a buyer need not read on, since `Acceptance` speaks of spellings alone
 
--- the form of a spelling's numbers
-abbrev pub headingForm : List ℕ → Form
-headingForm ns =
-    Heading
-    (record {
+-- the head by a spelling's numbers before the gaps, the gaps, and its numbers from place i on, behind them
+abbrev pub headBy : (ns : List ℕ) (gap : Gap) (i : ℕ) → Head
+headBy ns gap i =
+    record {
       size = getD ns 0 0;
       window = getD ns 1 0;
       cut = getD ns 2 0;
-      gap = getD ns 3 0;
-      lower = getD ns 4 0;
-      upper = getD ns 5 0;
-      accuracy = getD ns 6 0;
-      levels = getD ns 7 0;
-    })
+      gap = gap;
+      lower = getD ns i 0;
+      upper = getD ns (i + 1) 0;
+      accuracy = getD ns (i + 2) 0;
+      levels = getD ns (i + 3) 0;
+    }
 
-abbrev pub shapeForm : List ℕ → Form
-shapeForm ns = Shape (record { x1 = getD ns 0 0; y1 = getD ns 1 0; x2 = getD ns 2 0; y2 = getD ns 3 0 })
+-- the forms of a spelling's numbers
+abbrev pub oneGapForm : List ℕ → Form
+oneGapForm ns = Heading (headBy ns (Both (getD ns 3 0)) 4)
+
+abbrev pub twoGapsForm : List ℕ → Form
+twoGapsForm ns = Heading (headBy ns (Each (getD ns 3 0) (getD ns 4 0)) 5)
+
+abbrev pub shapeForm : Kind → List ℕ → Form
+shapeForm kind ns = Metal (record { kind = kind; rect = record { x1 = getD ns 0 0; y1 = getD ns 1 0; x2 = getD ns 2 0; y2 = getD ns 3 0 } })
 
 abbrev pub fillForm : List ℕ → Form
 fillForm ns = Fill (getD ns 0 0) (getD ns 1 0) (getD ns 2 0)
@@ -102,11 +133,16 @@ abbrev pub formIf : Option (List ℕ) → (List ℕ → Form) → Form → Form
 formIf none form other = other
 formIf (some ns) form other = form ns
 
--- the form that a line spells, without its line feed
+-- the form that a line spells, without its line feed: a fill or the end; a shape, or one of these; the head, or one of these
+abbrev pub laterForm : Limits → List ℕ → Form
+laterForm limits line = formIf (readAs (limits .digits) fillPattern line) fillForm (formIf (readAs (limits .digits) endPattern line) endForm Unknown)
+
+abbrev pub bodyForm : Limits → List ℕ → Form
+bodyForm limits line =
+    formIf (readAs (limits .digits) rectPattern line) (shapeForm Drawn)
+    (formIf (readAs (limits .digits) dummyPattern line) (shapeForm Dummy) (laterForm limits line))
+
 unfoldable pub formOf : Limits → List ℕ → Form
 formOf limits line =
-    formIf (readAs (limits .digits) headPattern line) headingForm
-    (formIf (readAs (limits .digits) rectPattern line) shapeForm
-    (formIf (readAs (limits .digits) fillPattern line) fillForm
-    (formIf (readAs (limits .digits) endPattern line) endForm
-    Unknown)))
+    formIf (readAs (limits .digits) oneGapPattern line) oneGapForm
+    (formIf (readAs (limits .digits) twoGapsPattern line) twoGapsForm (bodyForm limits line))

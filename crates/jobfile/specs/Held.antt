@@ -1,19 +1,23 @@
--- How the reader holds what stands: a small state by value and two lent tables; what is always so of what stands after good lines; and how the
+-- How the reader holds what stands: a small state by value and three lent tables; what is always so of what stands after good lines; and how the
 -- reader hands back a file's outcome. A buyer need not read it: no contract of the unit's public functions names it.
-use Prim.Native.Nat.{ℕ, _+_, _-_, _*_, _≤_, _<_}
+use Prim.Native.Nat.{ℕ, zero, suc, _+_, _-_, _*_, _≤_, _<_}
 use mathlib.Core.Path.{_≡_}
 use mathlib.Core.Bool.{Bool, true, false}
-use mathlib.Core.List.{List, [], _∷_, _++_}
+use mathlib.Core.List.{List, [], _∷_, _++_, map}
 use lib.Dec.{ltb, eqb}
 use lib.ListN.{length, take, drop, set, replicate}
 use Rattle.geometry.specs.declared.Rect.{Rect}
-use Rattle.geometry.specs.Layout.{Disjoint, Drawn, rectsOf}
+use Rattle.geometry.specs.Layout.{Disjoint, Layer, rectsOf, withRect}
 use Rattle.spelling.specs.Scanning.{lineLength}
 use Rattle.fill.specs.declared.Part.{Part}
-use Rattle.fill.specs.Eligible.{tile, fillableArea}
-use Rattle.fill.specs.Free.{Serves}
+use Rattle.fill.specs.Eligible.{tile}
+use Rattle.fill.specs.Free.{regionOf, Regions, freeFrom, Serves}
 use Rattle.fill.specs.Judge.{numberAt}
+use Rattle.fill.specs.Sizes.{SmallKeepout}
 use Rattle.jobfile.specs.declared.Head.{Head}
+use Rattle.jobfile.specs.declared.Kind.{Kind}
+use Rattle.jobfile.specs.declared.Kind.the-variants.{Drawn, Dummy}
+use Rattle.jobfile.specs.declared.Shape.{Shape}
 use Rattle.jobfile.specs.declared.Form.{Form}
 use Rattle.jobfile.specs.declared.Turn.{Turn}
 use Rattle.jobfile.specs.declared.Turn.the-variants.{Before, Shapes, Fills, Done}
@@ -24,13 +28,18 @@ use Rattle.jobfile.specs.declared.Step.{Step}
 use Rattle.jobfile.specs.declared.Ending.{Ending}
 use Rattle.jobfile.specs.declared.Job.{Job}
 use Rattle.jobfile.specs.Limits.{Limits, unitLimits}
+use Rattle.jobfile.specs.Shapes.{rectangles, keepoutOf, keepouts}
 use Rattle.jobfile.specs.Forms.{formOf, headInRange, rectInRange, tileSide, tilesAcross, agrees}
-use Rattle.jobfile.specs.Faults.{Standing, beforeHead, noHead, fitsLayout, lineFault, standsAfter}
+use Rattle.jobfile.specs.Faults.{Standing, beforeHead, noHead, fitsLayout, roomOf, lineFault, standsAfter}
 use Rattle.jobfile.specs.File.{Outcome, refused, accepted}
 
--- the numbers that the two tables have room for: four to a rectangle, one to a tile
+-- the numbers that the tables have room for: four to a shape for its corners, and behind all of these one to a shape for its kind; four to a region;
+-- one to a tile
+abbrev pub cornersRoom : ℕ
+cornersRoom = 4 * unitLimits .shapes
+
 abbrev pub shapesRoom : ℕ
-shapesRoom = 4 * unitLimits .shapes
+shapesRoom = cornersRoom + unitLimits .shapes
 
 abbrev pub amountsRoom : ℕ
 amountsRoom = unitLimits .tiles * unitLimits .tiles
@@ -39,10 +48,29 @@ amountsRoom = unitLimits .tiles * unitLimits .tiles
 abbrev pub tileCount : Head → ℕ
 tileCount h = tilesAcross h * tilesAcross h
 
+-- a kind in a table, and back
+abbrev pub kindNumber : Kind → ℕ
+kindNumber Drawn = 0
+kindNumber Dummy = 1
+
+abbrev pub kindOf : ℕ → Kind
+kindOf zero = Drawn
+kindOf (suc n) = Dummy
+
+-- shapes by their rectangles and kinds; where the kinds end, drawn
+unfoldable pub shapesBy : List Rect → (kinds : List ℕ) → List Shape
+shapesBy [] kinds = []
+shapesBy (r ∷ rs) [] = record { kind = Drawn; rect = r } ∷ shapesBy rs []
+shapesBy (r ∷ rs) (k ∷ kinds) = record { kind = kindOf k; rect = r } ∷ shapesBy rs kinds
+
+-- the first n shapes of a table
+abbrev pub shapesIn : ℕ → List ℕ → List Shape
+shapesIn n table = shapesBy (rectsOf (take (4 * n) table)) (drop cornersRoom table)
+
 -- what stands by a state and its tables
-abbrev pub standing : State → (rects amounts : List ℕ) → Standing
-standing s rects amounts =
-    record { turn = s .turn; head = s .head; shapes = rectsOf (take (4 * s .count) rects); amounts = take (tileCount (s .head)) amounts }
+abbrev pub standing : State → (shapes amounts : List ℕ) → Standing
+standing s shapes amounts =
+    record { turn = s .turn; head = s .head; shapes = shapesIn (s .count) shapes; amounts = take (tileCount (s .head)) amounts }
 
 -- a head that was good
 pub record GoodHead (h : Head) : Type 0 where
@@ -59,12 +87,12 @@ pub record Sound (st : Standing) : Type 0 where
   pub start : st .turn ≡ Before → st ≡ beforeHead
   pub headed : (st .turn ≡ Before → ⊥) → GoodHead (st .head)
   pub few : length (st .shapes) ≤ unitLimits .shapes
-  pub good : GoodShapes (st .head) (st .shapes)
-  pub apart : Disjoint (st .shapes)
+  pub good : GoodShapes (st .head) (rectangles (st .shapes))
+  pub apart : Disjoint (rectangles (st .shapes))
   pub sized : length (st .amounts) ≡ tileCount (st .head)
   pub unfilled : st .turn ≡ Shapes → st .amounts ≡ replicate (tileCount (st .head)) 0
   pub fillable : (i j : ℕ) → i < tilesAcross (st .head) → j < tilesAcross (st .head) →
-      numberAt (st .amounts) (tilesAcross (st .head)) i j ≤ fillableArea (st .head .gap) (st .shapes) (tile (tileSide (st .head)) i j)
+      numberAt (st .amounts) (tilesAcross (st .head)) i j ≤ roomOf st i j
 
 -- a row of tiles, as a box
 abbrev pub rowBox : Head → ℕ → Rect
@@ -73,7 +101,7 @@ rowBox h j = record { x1 = 0; y1 = j * tileSide h; x2 = h .size; y2 = j * tileSi
 -- the part of a table that is at hand is enough for the tiles of its row
 abbrev pub NearHeld : Head → (table : List ℕ) → Near → Type 0
 NearHeld h table NoRow = Unit {0}
-NearHeld h table (Row j p) = Serves (h .gap) table (rowBox h j) p
+NearHeld h table (Row j p) = Serves table (rowBox h j) p
 
 -- whether it is a row's
 abbrev pub isRow : Near → ℕ → Bool
@@ -85,21 +113,70 @@ abbrev pub partFor : Near → (row all : ℕ) → Part
 partFor NoRow row all = record { from = 0; to = all }
 partFor (Row j p) row all = elim (eqb j row) [ true ↦ p | false ↦ record { from = 0; to = all } ]
 
--- a state and its tables hold what stands: 0 behind the rectangles and behind the amounts; and the part at hand is enough for its row
-pub record Held (s : State) (rects amounts : List ℕ) : Type 0 where
-  pub room : length rects ≡ shapesRoom
-  pub amounts-room : length amounts ≡ amountsRoom
-  pub count : s .count ≤ unitLimits .shapes
-  pub tiles : tileCount (s .head) ≤ amountsRoom
-  pub behind : drop (4 * s .count) rects ≡ replicate (shapesRoom - 4 * s .count) 0
-  pub beyond : drop (tileCount (s .head)) amounts ≡ replicate (amountsRoom - tileCount (s .head)) 0
-  pub sound : Sound (standing s rects amounts)
-  pub near : NearHeld (s .head) (take (4 * s .count) rects) (s .near)
+-- the numbers of the kinds of shapes
+abbrev pub kindsOf : List Shape → List ℕ
+kindsOf ss = map (λ s. kindNumber (s .kind)) ss
 
--- the rectangles that a state counts are in the table, and drawn
-pub record ShapesHeld (s : State) (rects : List ℕ) : Type 0 where
-  pub within : 4 * s .count ≤ length rects
-  pub drawn : Drawn (take (4 * s .count) rects)
+-- a list filled up with 0 to n numbers
+abbrev pub padded : ℕ → List ℕ → List ℕ
+padded n s = s ++ replicate (n - length s) 0
+
+-- a table of rectangles, four numbers each
+unfoldable pub tableOf : List Rect → List ℕ
+tableOf [] = []
+tableOf (r ∷ rs) = r .x1 ∷ r .y1 ∷ r .x2 ∷ r .y2 ∷ tableOf rs
+
+-- the table of shapes: their corners, then their kinds, each with 0 behind
+abbrev pub shapesTable : List Shape → List ℕ
+shapesTable ss = padded cornersRoom (tableOf (rectangles ss)) ++ padded (unitLimits .shapes) (kindsOf ss)
+
+-- the tables of n shapes: there is nothing else in that of the shapes; and the regions are those of the shapes, by the gaps of the head
+pub record ShapesKept (h : Head) (n : ℕ) (shapes regions : List ℕ) : Type 0 where
+  pub table : shapes ≡ shapesTable (shapesIn n shapes)
+  pub counted : length (shapesIn n shapes) ≡ n
+  pub few : n ≤ unitLimits .shapes
+  pub room : length regions ≡ cornersRoom
+  pub kept : Regions (take (4 * n) regions) (keepouts (h .gap) (shapesIn n shapes))
+
+-- the table of amounts, 0 behind those of the layout's tiles
+pub record AmountsKept (h : Head) (amounts : List ℕ) : Type 0 where
+  pub room : length amounts ≡ amountsRoom
+  pub tiles : tileCount h ≤ amountsRoom
+  pub beyond : drop (tileCount h) amounts ≡ replicate (amountsRoom - tileCount h) 0
+
+-- a state and its tables hold what stands; and the part at hand is enough for its row
+pub record Held (s : State) (shapes regions amounts : List ℕ) : Type 0 where
+  pub shaped : ShapesKept (s .head) (s .count) shapes regions
+  pub filled : AmountsKept (s .head) amounts
+  pub sound : Sound (standing s shapes amounts)
+  pub near : NearHeld (s .head) (take (4 * s .count) regions) (s .near)
+
+-- tables without a number yet
+pub record Cleared (shapes regions amounts : List ℕ) : Type 0 where
+  pub no-shapes : shapes ≡ replicate shapesRoom 0
+  pub no-regions : regions ≡ replicate cornersRoom 0
+  pub no-amounts : amounts ≡ replicate amountsRoom 0
+
+-- the rectangles that a state counts are in the table, and make a layer
+pub record ShapesHeld (s : State) (shapes : List ℕ) : Type 0 where
+  pub within : 4 * s .count ≤ length shapes
+  pub layer : Layer (take (4 * s .count) shapes)
+
+-- a shape that may be stored: the tables have room for it, and its region fits 64 bits
+pub record Storable (s : State) (shape : Shape) (shapes regions : List ℕ) : Type 0 where
+  pub room : length shapes ≡ shapesRoom
+  pub regions-room : length regions ≡ cornersRoom
+  pub more : s .count < unitLimits .shapes
+  pub small : SmallKeepout (keepoutOf (s .head .gap) shape)
+
+-- the table of shapes with one more behind n of them
+abbrev pub withShape : List ℕ → ℕ → Shape → List ℕ
+withShape l n shape = set (withRect l n (shape .rect)) (cornersRoom + n) (kindNumber (shape .kind))
+
+-- a shape was stored: in the table of shapes, and its region
+pub record Stored (s : State) (shape : Shape) (shapes regions shapes′ regions′ : List ℕ) : Type 0 where
+  pub table : shapes′ ≡ withShape shapes (s .count) shape
+  pub region : regions′ ≡ withRect regions (s .count) (regionOf (keepoutOf (s .head .gap) shape))
 
 -- tile (i, j) lies in the layout, which has no more tiles than are allowed
 pub record TileIn (h : Head) (i j : ℕ) : Type 0 where
@@ -107,28 +184,20 @@ pub record TileIn (h : Head) (i j : ℕ) : Type 0 where
   pub column : i < tilesAcross h
   pub row : j < tilesAcross h
 
--- what the fillable area of tile (i, j) asks
-pub record TileAsked (s : State) (rects : List ℕ) (i j : ℕ) : Type 0 where
-  pub shapes : ShapesHeld s rects
+-- what the tiles of a layout are counted by
+pub record RegionsHeld (s : State) (regions : List ℕ) : Type 0 where
+  pub within : 4 * s .count ≤ length regions
   pub head : GoodHead (s .head)
-  pub tile : TileIn (s .head) i j
-  pub near : NearHeld (s .head) (take (4 * s .count) rects) (s .near)
+  pub near : NearHeld (s .head) (take (4 * s .count) regions) (s .near)
 
--- and what the part of the table for a row asks
-pub record RowAsked (s : State) (rects : List ℕ) (row : ℕ) : Type 0 where
-  pub shapes : ShapesHeld s rects
-  pub head : GoodHead (s .head)
-  pub inside : row < tilesAcross (s .head)
-  pub near : NearHeld (s .head) (take (4 * s .count) rects) (s .near)
-
--- a table with the four numbers of a rectangle stored behind n rectangles
-abbrev pub withShape : List ℕ → ℕ → Rect → List ℕ
-withShape l n r = set (set (set (set l (4 * n) (r .x1)) (4 * n + 1) (r .y1)) (4 * n + 2) (r .x2)) (4 * n + 3) (r .y2)
+-- the free area of tile (i, j), by the regions
+abbrev pub freeRoom : State → (regions : List ℕ) → (i j : ℕ) → ℕ
+freeRoom s regions i j = freeFrom (take (4 * s .count) regions) 0 (tile (tileSide (s .head)) i j)
 
 -- a good line was entered
-pub record Entered (s : State) (rects amounts : List ℕ) (f : Form) (s′ : State) (rects′ amounts′ : List ℕ) : Type 0 where
-  pub stands : standing s′ rects′ amounts′ ≡ standsAfter (standing s rects amounts) f
-  pub held : Held s′ rects′ amounts′
+pub record Entered (s : State) (shapes amounts : List ℕ) (f : Form) (s′ : State) (shapes′ regions′ amounts′ : List ℕ) : Type 0 where
+  pub stands : standing s′ shapes′ amounts′ ≡ standsAfter (standing s shapes amounts) f
+  pub held : Held s′ shapes′ regions′ amounts′
 
 -- the first line of what is left of a file
 abbrev pub firstLine : List ℕ → List ℕ
@@ -138,12 +207,12 @@ firstLine rest = take (lineLength rest) rest
 abbrev pub firstFault : Limits → Standing → List ℕ → ℕ
 firstFault m st rest = elim (ltb (lineLength rest) (length rest)) [ true ↦ lineFault m st (formOf m (firstLine rest)) | false ↦ 2 ]
 
--- the first line of what is left was read, and entered where it is good
-pub record LineRead (rest : List ℕ) (s : State) (rects amounts : List ℕ) (r : Step) (rects′ amounts′ : List ℕ) : Type 0 where
-  pub fault : r .fault ≡ firstFault unitLimits (standing s rects amounts) rest
+-- the first line of what is left was read, and entered where it is good; else no table has changed
+pub record LineRead (rest : List ℕ) (s : State) (shapes regions amounts : List ℕ) (r : Step) (shapes′ regions′ amounts′ : List ℕ) : Type 0 where
+  pub fault : r .fault ≡ firstFault unitLimits (standing s shapes amounts) rest
   pub used : r .used ≡ lineLength rest + 1
-  pub good : r .fault ≡ 0 → Entered s rects amounts (formOf unitLimits (firstLine rest)) (r .state) rects′ amounts′
-  pub bad : (r .fault ≡ 0 → ⊥) → (r .state ≡ s) × (rects′ ≡ rects) × (amounts′ ≡ amounts)
+  pub good : r .fault ≡ 0 → Entered s shapes amounts (formOf unitLimits (firstLine rest)) (r .state) shapes′ regions′ amounts′
+  pub bad : (r .fault ≡ 0 → ⊥) → (r .state ≡ s) × (shapes′ ≡ shapes) × (regions′ ≡ regions) × (amounts′ ≡ amounts)
 
 -- the fault after the last line: 12 where no (end) was read
 abbrev pub endFault : Turn → ℕ
@@ -152,33 +221,24 @@ endFault Shapes = 12
 endFault Fills = 12
 endFault Done = 0
 
--- a table of rectangles, four numbers each
-unfoldable pub tableOf : List Rect → List ℕ
-tableOf [] = []
-tableOf (r ∷ rs) = r .x1 ∷ r .y1 ∷ r .x2 ∷ r .y2 ∷ tableOf rs
-
--- a list filled up with 0 to n numbers
-abbrev pub padded : ℕ → List ℕ → List ℕ
-padded n s = s ++ replicate (n - length s) 0
-
 -- the outcome as the reader returns it
 abbrev pub asJob : Outcome → Job
 asJob (refused number line) =
-    record { fault = number; line = line; head = noHead; count = 0; rects = replicate shapesRoom 0; amounts = replicate amountsRoom 0 }
+    record { fault = number; line = line; head = noHead; count = 0; shapes = replicate shapesRoom 0; amounts = replicate amountsRoom 0 }
 asJob (accepted st) =
     record {
       fault = 0;
       line = 0;
       head = st .head;
       count = length (st .shapes);
-      rects = padded shapesRoom (tableOf (st .shapes));
+      shapes = shapesTable (st .shapes);
       amounts = padded amountsRoom (st .amounts);
     }
 
 -- the job of an ending and its tables, which count only where no fault was found
-unfoldable pub jobOf : Ending → (rects amounts : List ℕ) → Job
-jobOf e rects amounts =
+unfoldable pub jobOf : Ending → (shapes amounts : List ℕ) → Job
+jobOf e shapes amounts =
     elim (eqb (e .fault) 0) [
-      | true ↦ record { fault = 0; line = 0; head = e .state .head; count = e .state .count; rects = rects; amounts = amounts }
+      | true ↦ record { fault = 0; line = 0; head = e .state .head; count = e .state .count; shapes = shapes; amounts = amounts }
       | false ↦ asJob (refused (e .fault) (e .line))
     ]

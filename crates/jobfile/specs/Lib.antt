@@ -1,4 +1,5 @@
 pub mod Limits
+pub mod Shapes
 pub mod Forms
 pub mod Faults
 pub mod File

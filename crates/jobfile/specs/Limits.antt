@@ -1,12 +1,12 @@
 -- Document 01, "The job file": the limits of a file and of its numbers. They are a value, so that two sets of limits can be compared.
 use Prim.Native.Nat.{ℕ, _≤_}
 
--- the most that a file may have: bytes of the file, digits of a number, rectangles; and the greatest number of each kind
+-- the most that a file may have: bytes of the file, digits of a number, shapes; and the greatest number of each kind
 pub record Limits : Type 0 where
   pub bytes : ℕ
   pub digits : ℕ
   pub shapes : ℕ
-  -- N, W, B and corners
+  -- N, W, B, D and corners
   pub side : ℕ
   -- R, tiles across a window, and tiles across a layout; I and J are below it
   pub tiles : ℕ

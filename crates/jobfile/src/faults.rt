@@ -18,16 +18,13 @@ use geometry::shares_square;
 ghost use mathlib.Core.Path.{_≡_};
 ghost use mathlib.Core.Bool.{true};
 ghost use mathlib.Core.List.{[]};
-ghost use Prim.Native.Nat.{_*_};
 ghost use lib.ListN.{take};
-ghost use Rattle.geometry.specs.Layout.{rectsOf};
-ghost use Rattle.fill.specs.Eligible.{tile, fillableArea};
 ghost use Rattle.jobfile.specs.Limits.{unitLimits};
-ghost use Rattle.jobfile.specs.Forms.{tileSide, agrees};
+ghost use Rattle.jobfile.specs.Forms.{agrees};
 ghost use Rattle.jobfile.specs.Faults.{rankOf, known, inTurn, check, fitsLayout, shapeFault, fillFault, ownFault, lineFault};
-ghost use Rattle.jobfile.specs.Held.{standing, GoodHead, Held, ShapesHeld, TileAsked};
+ghost use Rattle.jobfile.specs.Held.{tileCount, standing, AmountsKept, Held, ShapesHeld, TileIn, RegionsHeld, freeRoom};
 
-// Where a form comes in a file: the head, rectangles, fills, the end; 0 for a
+// Where a form comes in a file: the head, shapes, fills, the end; 0 for a
 // line that is none of the spellings.
 fn rank(f: Form) -> u64
     ensures { λ r. ⌜ r ≡ rankOf f ⌝ }
@@ -35,7 +32,7 @@ fn rank(f: Form) -> u64
     match f {
         Form::Unknown => 0,
         Form::Heading(_) => 1,
-        Form::Shape(_) => 2,
+        Form::Metal(_) => 2,
         Form::Fill {
             column: _,
             row: _,
@@ -73,10 +70,10 @@ fn fits_layout(h: Head, r: Rect) -> bool
     both(ordered, inside)
 }
 
-// The faults of a rectangle; the amounts play no part in them.
-fn shape_fault(s: State, rects: &[u64], r: Rect) -> u64
-    requires { ⌜ ShapesHeld s (now rects) ⌝ }
-    ensures { λ n. ⌜ n ≡ shapeFault unitLimits (standing s (now (rects .entry)) []) r ⌝ }
+// The faults of a shape; its kind and the amounts play no part in them.
+fn shape_fault(s: State, shapes: &[u64], r: Rect) -> u64
+    requires { ⌜ ShapesHeld s (now shapes) ⌝ }
+    ensures { λ n. ⌜ n ≡ shapeFault unitLimits (standing s (now (shapes .entry)) []) r ⌝ }
 {
     let count = s.count;
     if !fits_layout(s.head, r) {
@@ -86,16 +83,17 @@ fn shape_fault(s: State, rects: &[u64], r: Rect) -> u64
         return 8;
     }
     let end = 4 * count;
-    if shares_square(&rects[..end], r) {
+    if shares_square(&shapes[..end], r) {
         return 9;
     }
     0
 }
 
-// The fillable area of tile (i, j).
-fn tile_room(s: State, rects: &[u64], i: u64, j: u64) -> u64
-    requires { ⌜ TileAsked s (now rects) i j ⌝ }
-    ensures { λ r. ⌜ r ≡ fillableArea (s .head .gap) (rectsOf (take (4 * s .count) (now (rects .entry)))) (tile (tileSide (s .head)) i j) ⌝ }
+// The free area of tile (i, j), by the regions of the shapes.
+fn tile_room(s: State, regions: &[u64], i: u64, j: u64) -> u64
+    requires { ⌜ RegionsHeld s (now regions) ⌝ }
+    requires { ⌜ TileIn (s .head) i j ⌝ }
+    ensures { λ r. ⌜ r ≡ freeRoom s (now (regions .entry)) i j ⌝ }
 {
     let head = s.head;
     let count = s.count;
@@ -103,14 +101,14 @@ fn tile_room(s: State, rects: &[u64], i: u64, j: u64) -> u64
     let near = s.near;
     let b = tile_box(tile_side(head), i, j);
     let part = part_for(near, j, end);
-    fillable(&rects[..end], part, head.gap, b)
+    fillable(&regions[..end], part, b)
 }
 
 // The faults of a fill.
-fn fill_fault(s: State, rects: &[u64], amounts: &[u64], i: u64, j: u64, p: u64) -> u64
-    requires { ⌜ Held s (now rects) (now amounts) ⌝ }
-    requires { ⌜ GoodHead (s .head) ⌝ }
-    ensures { λ n. ⌜ n ≡ fillFault (standing s (now (rects .entry)) (now (amounts .entry))) i j p ⌝ }
+fn fill_fault(s: State, regions: &[u64], amounts: &[u64], i: u64, j: u64, p: u64) -> u64
+    requires { ⌜ RegionsHeld s (now regions) ⌝ }
+    requires { ⌜ AmountsKept (s .head) (now amounts) ⌝ }
+    ensures { λ n. ⌜ n ≡ fillFault (s .head) (take (tileCount (s .head)) (now (amounts .entry))) (freeRoom s (now (regions .entry)) i j) i j p ⌝ }
 {
     let head = s.head;
     let across = tiles_across(head);
@@ -124,27 +122,27 @@ fn fill_fault(s: State, rects: &[u64], amounts: &[u64], i: u64, j: u64, p: u64) 
     if amounts[at] != 0 {
         return 10;
     }
-    if tile_room(s, rects, i, j) < p {
+    if tile_room(s, regions, i, j) < p {
         return 11;
     }
     0
 }
 
 // The faults that a form of its own kind may have.
-fn own_fault(s: State, f: Form, rects: &[u64], amounts: &[u64]) -> u64
-    requires { ⌜ Held s (now rects) (now amounts) ⌝ }
+fn own_fault(s: State, f: Form, shapes: &[u64], regions: &[u64], amounts: &[u64]) -> u64
+    requires { ⌜ Held s (now shapes) (now regions) (now amounts) ⌝ }
     requires { ⌜ inTurn (s .turn) f ≡ true ⌝ }
-    ensures { λ n. ⌜ n ≡ ownFault unitLimits (standing s (now (rects .entry)) (now (amounts .entry))) f ⌝ }
+    ensures { λ n. ⌜ n ≡ ownFault unitLimits (standing s (now (shapes .entry)) (now (amounts .entry))) f ⌝ }
 {
     match f {
         Form::Unknown => 2,
         Form::Heading(h) => head_fault(h),
-        Form::Shape(r) => shape_fault(s, rects, r),
+        Form::Metal(shape) => shape_fault(s, shapes, shape.rect),
         Form::Fill {
             column,
             row,
             amount,
-        } => fill_fault(s, rects, amounts, column, row, amount),
+        } => fill_fault(s, regions, amounts, column, row, amount),
         Form::End => 0,
     }
 }
@@ -156,9 +154,9 @@ fn head_fault(h: Head) -> u64
 }
 
 // The lowest number of a fault that a line has, 0 for none.
-pub(crate) fn line_fault(s: State, f: Form, rects: &[u64], amounts: &[u64]) -> u64
-    requires { ⌜ Held s (now rects) (now amounts) ⌝ }
-    ensures { λ n. ⌜ n ≡ lineFault unitLimits (standing s (now (rects .entry)) (now (amounts .entry))) f ⌝ }
+pub(crate) fn line_fault(s: State, f: Form, shapes: &[u64], regions: &[u64], amounts: &[u64]) -> u64
+    requires { ⌜ Held s (now shapes) (now regions) (now amounts) ⌝ }
+    ensures { λ n. ⌜ n ≡ lineFault unitLimits (standing s (now (shapes .entry)) (now (amounts .entry))) f ⌝ }
 {
     let turn = s.turn;
     if !is_known(f) {
@@ -170,5 +168,5 @@ pub(crate) fn line_fault(s: State, f: Form, rects: &[u64], amounts: &[u64]) -> u
     if !in_turn(turn, f) {
         return 4;
     }
-    own_fault(s, f, rects, amounts)
+    own_fault(s, f, shapes, regions, amounts)
 }

@@ -1,6 +1,9 @@
 // The forms of a line: how each is spelled, the ranges of its numbers, whether a head agrees.
 use crate::Form;
+use crate::Gap;
 use crate::Head;
+use crate::Kind;
+use crate::Shape;
 use crate::limits::MOST_ACCURACY;
 use crate::limits::MOST_AMOUNT;
 use crate::limits::MOST_BOUND;
@@ -14,36 +17,53 @@ use spelling::MOST_VALUES;
 use spelling::read_as;
 ghost use mathlib.Core.Path.{_≡_};
 ghost use mathlib.Core.Bool.{_&&_};
-ghost use Prim.Native.Nat.{_*_, _/_, _%_, _≤_};
+ghost use Prim.Native.Nat.{_+_, _*_, _/_, _%_, _≤_, _<_};
 ghost use lib.Dec.{leb, eqb};
+ghost use Rattle.spelling.specs.Scanning.{mostValues};
 ghost use Rattle.jobfile.specs.Limits.{unitLimits};
-ghost use Rattle.jobfile.specs.Forms.{headingForm, shapeForm, fillForm, formOf, inSpan, headInRange, rectInRange, fillInRange, inRange, tileSide, tilesAcross, planOf, agrees};
+ghost use Rattle.jobfile.specs.Forms.{headBy, oneGapForm, twoGapsForm, shapeForm, fillForm, laterForm, bodyForm, formOf, inSpan, gapInRange, headInRange, rectInRange, fillInRange, inRange, tileSide, tilesAcross, planOf, agrees};
 
-// The forms of a spelling's numbers.
-fn heading_form(v: [u64; MOST_VALUES]) -> Form
-    ensures { λ r. ⌜ r ≡ headingForm v ⌝ }
+// The head by a spelling's numbers before the gaps, the gaps, and its numbers from
+// place i on, behind them.
+fn head_by(v: [u64; MOST_VALUES], gap: Gap, i: usize) -> Head
+    requires { ⌜ i + 3 < mostValues ⌝ }
+    ensures { λ r. ⌜ r ≡ headBy v gap i ⌝ }
 {
-    Form::Heading(Head {
+    Head {
         size: v[0],
         window: v[1],
         cut: v[2],
-        gap: v[3],
-        lower: v[4],
-        upper: v[5],
-        accuracy: v[6],
-        levels: v[7],
-    })
+        gap,
+        lower: v[i],
+        upper: v[i + 1],
+        accuracy: v[i + 2],
+        levels: v[i + 3],
+    }
 }
 
-fn shape_form(v: [u64; MOST_VALUES]) -> Form
-    ensures { λ r. ⌜ r ≡ shapeForm v ⌝ }
+// The forms of a spelling's numbers.
+fn one_gap_form(v: [u64; MOST_VALUES]) -> Form
+    ensures { λ r. ⌜ r ≡ oneGapForm v ⌝ }
 {
-    Form::Shape(Rect {
+    Form::Heading(head_by(v, Gap::Both(v[3]), 4))
+}
+
+fn two_gaps_form(v: [u64; MOST_VALUES]) -> Form
+    ensures { λ r. ⌜ r ≡ twoGapsForm v ⌝ }
+{
+    Form::Heading(head_by(v, Gap::Each(v[3], v[4]), 5))
+}
+
+fn shape_form(kind: Kind, v: [u64; MOST_VALUES]) -> Form
+    ensures { λ r. ⌜ r ≡ shapeForm kind v ⌝ }
+{
+    let rect = Rect {
         x1: v[0],
         y1: v[1],
         x2: v[2],
         y2: v[3],
-    })
+    };
+    Form::Metal(Shape { kind, rect })
 }
 
 fn fill_form(v: [u64; MOST_VALUES]) -> Form
@@ -56,24 +76,10 @@ fn fill_form(v: [u64; MOST_VALUES]) -> Form
     }
 }
 
-// The form that a line spells, without its line feed.
-pub(crate) fn form_of(line: &[u8]) -> Form
-    ensures { λ r. ⌜ r ≡ formOf unitLimits (now (line .entry)) ⌝ }
+// The form of a line that is no head and no shape.
+fn later_form(line: &[u8]) -> Form
+    ensures { λ r. ⌜ r ≡ laterForm unitLimits (now (line .entry)) ⌝ }
 {
-    let head = read_as(
-        line,
-        b"(job (size #) (window #) (cut #) (gap #) (bounds # #) (zoom # #))",
-        MOST_DIGITS,
-    );
-    if head.ok {
-        let v = head.values;
-        return heading_form(v);
-    }
-    let rect = read_as(line, b"(rect # # # #)", MOST_DIGITS);
-    if rect.ok {
-        let v = rect.values;
-        return shape_form(v);
-    }
     let fill = read_as(line, b"(fill # # #)", MOST_DIGITS);
     if fill.ok {
         let v = fill.values;
@@ -83,6 +89,48 @@ pub(crate) fn form_of(line: &[u8]) -> Form
         return Form::End;
     }
     Form::Unknown
+}
+
+// The form of a line that is no head.
+fn body_form(line: &[u8]) -> Form
+    ensures { λ r. ⌜ r ≡ bodyForm unitLimits (now (line .entry)) ⌝ }
+{
+    let rect = read_as(line, b"(rect # # # #)", MOST_DIGITS);
+    if rect.ok {
+        let v = rect.values;
+        return shape_form(Kind::Drawn, v);
+    }
+    let dummy = read_as(line, b"(dummy # # # #)", MOST_DIGITS);
+    if dummy.ok {
+        let v = dummy.values;
+        return shape_form(Kind::Dummy, v);
+    }
+    later_form(line)
+}
+
+// The form that a line spells, without its line feed.
+pub(crate) fn form_of(line: &[u8]) -> Form
+    ensures { λ r. ⌜ r ≡ formOf unitLimits (now (line .entry)) ⌝ }
+{
+    let one = read_as(
+        line,
+        b"(job (size #) (window #) (cut #) (gap #) (bounds # #) (zoom # #))",
+        MOST_DIGITS,
+    );
+    if one.ok {
+        let v = one.values;
+        return one_gap_form(v);
+    }
+    let two = read_as(
+        line,
+        b"(job (size #) (window #) (cut #) (gap # #) (bounds # #) (zoom # #))",
+        MOST_DIGITS,
+    );
+    if two.ok {
+        let v = two.values;
+        return two_gaps_form(v);
+    }
+    body_form(line)
 }
 
 fn in_span(lo: u64, hi: u64, n: u64) -> bool
@@ -103,11 +151,21 @@ fn in_spans(lo: u64, hi: u64, n: u64, low: u64, high: u64, m: u64) -> bool
     both(in_span(lo, hi, n), in_span(low, high, m))
 }
 
+fn gap_in_range(gap: Gap) -> bool
+    ensures { λ r. ⌜ r ≡ gapInRange unitLimits gap ⌝ }
+{
+    match gap {
+        Gap::Both(b) => in_span(0, MOST_SIDE, b),
+        Gap::Each(b, d) => in_spans(0, MOST_SIDE, b, 0, MOST_SIDE, d),
+    }
+}
+
 fn head_in_range(h: Head) -> bool
     ensures { λ r. ⌜ r ≡ headInRange unitLimits h ⌝ }
 {
     let sides = in_spans(1, MOST_SIDE, h.size, 1, MOST_SIDE, h.window);
-    let tiles = in_spans(1, MOST_TILES, h.cut, 0, MOST_SIDE, h.gap);
+    let gap = h.gap;
+    let tiles = both(in_span(1, MOST_TILES, h.cut), gap_in_range(gap));
     let bounds = in_spans(0, MOST_BOUND, h.lower, 0, MOST_BOUND, h.upper);
     let zoom = in_spans(0, MOST_ACCURACY, h.accuracy, 1, MOST_LEVELS, h.levels);
     both(both(both(sides, tiles), bounds), zoom)
@@ -134,7 +192,7 @@ pub(crate) fn in_range(f: Form) -> bool
     match f {
         Form::Unknown => true,
         Form::Heading(h) => head_in_range(h),
-        Form::Shape(r) => rect_in_range(r),
+        Form::Metal(shape) => rect_in_range(shape.rect),
         Form::Fill {
             column,
             row,

@@ -1,20 +1,27 @@
-// What stands, held in a state and two lent tables.
+// What stands, held in a state and lent tables.
 use crate::Form;
+use crate::Gap;
 use crate::Head;
 use crate::Near;
+use crate::Shape;
 use crate::State;
 use crate::Turn;
 use crate::forms::tiles_across;
+use crate::limits::CORNERS_ROOM;
 use crate::parts::near_row;
-use geometry::Rect;
+use crate::shapes::gap_for;
+use crate::shapes::kind_number;
+use fill::Keepout;
+use fill::keep_out;
+use geometry::store_rect;
 ghost use mathlib.Core.Path.{_≡_};
-ghost use Prim.Native.Nat.{_+_, _*_, _≤_, _<_};
+ghost use Prim.Native.Nat.{_<_};
 ghost use lib.ListN.{length, set};
 ghost use Rattle.fill.specs.Judge.{tileIndex};
 ghost use Rattle.jobfile.specs.Limits.{unitLimits};
 ghost use Rattle.jobfile.specs.Forms.{tilesAcross};
 ghost use Rattle.jobfile.specs.Faults.{noHead, lineFault};
-ghost use Rattle.jobfile.specs.Held.{standing, Held, TileIn, withShape, Entered};
+ghost use Rattle.jobfile.specs.Held.{standing, Held, TileIn, Storable, Stored, Entered};
 
 // Before the head.
 pub(crate) fn no_head() -> Head
@@ -24,7 +31,7 @@ pub(crate) fn no_head() -> Head
         size: 0,
         window: 0,
         cut: 0,
-        gap: 0,
+        gap: Gap::Both(0),
         lower: 0,
         upper: 0,
         accuracy: 0,
@@ -41,16 +48,27 @@ pub(crate) fn tile_place(h: Head, i: u64, j: u64) -> usize
     (j * across + i) as usize
 }
 
-// Stores a rectangle behind those that stand.
-fn store_shape(rects: &mut [u64], count: usize, r: Rect)
-    requires { ⌜ 4 * count + 4 ≤ length (now rects) ⌝ }
-    ensures { λ u. ⌜ now (rects .exit) ≡ withShape (now (rects .entry)) count r ⌝ }
+// Stores a shape behind those that stand, and the region that it keeps free of
+// fill.
+fn store_shape(s: State, shape: Shape, shapes: &mut [u64], regions: &mut [u64])
+    requires { ⌜ Storable s shape (now shapes) (now regions) ⌝ }
+    ensures { λ _. ⌜ Stored s shape (now (shapes .entry)) (now (regions .entry)) (now (shapes .exit)) (now (regions .exit)) ⌝ }
 {
-    let at = 4 * count;
-    rects[at] = r.x1;
-    rects[at + 1] = r.y1;
-    rects[at + 2] = r.x2;
-    rects[at + 3] = r.y2;
+    let count = s.count;
+    let head = s.head;
+    let gap = head.gap;
+    let kind = shape.kind;
+    let rect = shape.rect;
+    store_rect(shapes, count, rect);
+    shapes[CORNERS_ROOM + count] = kind_number(kind);
+    keep_out(
+        regions,
+        count,
+        Keepout {
+            rect,
+            gap: gap_for(gap, kind),
+        },
+    );
 }
 
 // Stores the amount of tile (i, j).
@@ -64,10 +82,16 @@ fn store_amount(amounts: &mut [u64], h: Head, i: u64, j: u64, p: u64)
 }
 
 // Enters a good line.
-pub(crate) fn enter(s: State, f: Form, rects: &mut [u64], amounts: &mut [u64]) -> State
-    requires { ⌜ Held s (now rects) (now amounts) ⌝ }
-    requires { ⌜ lineFault unitLimits (standing s (now rects) (now amounts)) f ≡ 0 ⌝ }
-    ensures { λ r. ⌜ Entered s (now (rects .entry)) (now (amounts .entry)) f r (now (rects .exit)) (now (amounts .exit)) ⌝ }
+pub(crate) fn enter(
+    s: State,
+    f: Form,
+    shapes: &mut [u64],
+    regions: &mut [u64],
+    amounts: &mut [u64],
+) -> State
+    requires { ⌜ Held s (now shapes) (now regions) (now amounts) ⌝ }
+    requires { ⌜ lineFault unitLimits (standing s (now shapes) (now amounts)) f ≡ 0 ⌝ }
+    ensures { λ r. ⌜ Entered s (now (shapes .entry)) (now (amounts .entry)) f r (now (shapes .exit)) (now (regions .exit)) (now (amounts .exit)) ⌝ }
 {
     let head = s.head;
     let count = s.count;
@@ -79,8 +103,8 @@ pub(crate) fn enter(s: State, f: Form, rects: &mut [u64], amounts: &mut [u64]) -
             count: 0,
             near: Near::NoRow,
         },
-        Form::Shape(r) => {
-            store_shape(rects, count, r);
+        Form::Metal(shape) => {
+            store_shape(s, shape, shapes, regions);
             State {
                 turn: Turn::Shapes,
                 head,
@@ -94,7 +118,7 @@ pub(crate) fn enter(s: State, f: Form, rects: &mut [u64], amounts: &mut [u64]) -
             amount,
         } => {
             store_amount(amounts, head, column, row, amount);
-            let near = near_row(s, rects, row);
+            let near = near_row(s, regions, row);
             State {
                 turn: Turn::Fills,
                 head,

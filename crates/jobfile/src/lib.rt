@@ -5,6 +5,7 @@ mod held;
 mod limits;
 mod parts;
 mod reader;
+mod shapes;
 
 use fill::Part;
 pub use forms::plan_of;
@@ -12,6 +13,7 @@ pub use forms::tile_count;
 use geometry::Rect;
 use limits::AMOUNTS_ROOM;
 use limits::MOST_BYTES;
+use limits::REGIONS_ROOM;
 use limits::SHAPES_ROOM;
 use reader::read_lines;
 use reader::refusal;
@@ -20,28 +22,47 @@ ghost use Rattle.jobfile.specs.Limits.{unitLimits};
 ghost use Rattle.jobfile.specs.File.{outcomeOf};
 ghost use Rattle.jobfile.specs.Held.{asJob};
 
+// What the head says of the least gap between fill and metal: (gap B), the same for
+// drawn metal and for dummies, or (gap B D), B for drawn metal and D for dummies.
+pub enum Gap {
+    Both(u64),
+    Each(u64, u64),
+}
+
 // The numbers of the head, in the order of their spelling.
 pub struct Head {
     pub size: u64, // N, the side of the layout
     pub window: u64, // W, the side of the window
     pub cut: u64, // R, the tiles across a window
-    pub gap: u64, // B, the least gap between fill and drawn metal
+    pub gap: Gap, // B and D, the least gaps between fill and metal
     pub lower: u64, // L, a bound in ten-thousandths
     pub upper: u64, // U, a bound in ten-thousandths
     pub accuracy: u64, // E, in thousandths
     pub levels: u64, // V, the levels that each quick run may do
 }
 
+// Metal that is drawn, or a dummy of an earlier pass.
+pub enum Kind {
+    Drawn,
+    Dummy,
+}
+
+// A rectangle of metal, with its kind.
+pub struct Shape {
+    pub kind: Kind,
+    pub rect: Rect,
+}
+
 // What a line spells. Unknown is a line that is none of the spellings.
 pub enum Form {
     Unknown,
     Heading(Head),
-    Shape(Rect),
+    Metal(Shape),
     Fill { column: u64, row: u64, amount: u64 },
     End,
 }
 
-// What a file has come to: nothing yet, its rectangles, its fills, its end.
+// What a file has come to: nothing yet, its shapes, its fills, its end.
 pub enum Turn {
     Before,
     Shapes,
@@ -50,25 +71,26 @@ pub enum Turn {
 }
 
 // A file that was read: number and line of its first fault, both 0 where it has
-// none; then the head, the number of rectangles, their table, four numbers
-// each, and the amounts of the tiles row by row, all 0 after a fault.
+// none; then the head, the number of shapes, their table, and the amounts of the
+// tiles row by row, all 0 after a fault. The table of shapes has four corners to a
+// shape and, behind the room for all corners, its kind, 1 for a dummy.
 pub struct Job {
     pub fault: u64,
     pub line: u64,
     pub head: Head,
     pub count: usize,
-    pub rects: [u64; SHAPES_ROOM],
+    pub shapes: [u64; SHAPES_ROOM],
     pub amounts: [u64; AMOUNTS_ROOM],
 }
 
-// The part of the rectangles' table that is enough for a row of tiles, that of the
+// The part of the table of regions that is enough for a row of tiles, that of the
 // last fill: most fills come row by row.
 enum Near {
     NoRow,
     Row(u64, Part),
 }
 
-// What stands while a file is read, beside the two tables.
+// What stands while a file is read, beside the tables.
 struct State {
     turn: Turn,
     head: Head,
@@ -99,9 +121,10 @@ pub fn read(file: &[u8]) -> Job
     if MOST_BYTES < file.len() {
         return refusal(1, 0);
     }
-    let mut rects = [0u64; SHAPES_ROOM];
+    let mut shapes = [0u64; SHAPES_ROOM];
+    let mut regions = [0u64; REGIONS_ROOM];
     let mut amounts = [0u64; AMOUNTS_ROOM];
-    let end = read_lines(file, &mut rects, &mut amounts);
+    let end = read_lines(file, &mut shapes, &mut regions, &mut amounts);
     let fault = end.fault;
     if fault != 0 {
         return refusal(fault, end.line);
@@ -113,7 +136,7 @@ pub fn read(file: &[u8]) -> Job
         line: 0,
         head,
         count: s.count,
-        rects,
+        shapes,
         amounts,
     }
 }

@@ -6,10 +6,15 @@ pub(crate) const MOST_DIGITS: usize = 10;
 
 pub(crate) const MOST_SHAPES: usize = 256;
 
-// The table of rectangles, four numbers each.
-pub(crate) const SHAPES_ROOM: usize = 4 * MOST_SHAPES;
+// The corners of shapes, four numbers each, and their kinds behind them.
+pub(crate) const CORNERS_ROOM: usize = 4 * MOST_SHAPES;
 
-// N, W, B and corners.
+pub(crate) const SHAPES_ROOM: usize = CORNERS_ROOM + MOST_SHAPES;
+
+// The regions of shapes, four numbers each.
+pub(crate) const REGIONS_ROOM: usize = 4 * MOST_SHAPES;
+
+// N, W, B, D and corners.
 pub(crate) const MOST_SIDE: u64 = 65535;
 
 // R, tiles across a window, and tiles across a layout.

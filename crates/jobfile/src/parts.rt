@@ -1,5 +1,5 @@
-// The part of the rectangles' table that is kept for a row of tiles, so that the
-// fills of a row are counted by the rectangles that come near it.
+// The part of the table of regions that is kept for a row of tiles, so that the
+// fills of a row are counted by the regions that come near it.
 use crate::Near;
 use crate::State;
 use crate::forms::tile_side;
@@ -7,9 +7,10 @@ use fill::Part;
 use fill::part_near;
 use geometry::Rect;
 ghost use mathlib.Core.Path.{_≡_};
-ghost use Prim.Native.Nat.{_*_};
+ghost use Prim.Native.Nat.{_*_, _<_};
 ghost use lib.ListN.{take};
-ghost use Rattle.jobfile.specs.Held.{isRow, partFor, NearHeld, RowAsked};
+ghost use Rattle.jobfile.specs.Forms.{tilesAcross};
+ghost use Rattle.jobfile.specs.Held.{isRow, partFor, NearHeld, RegionsHeld};
 
 // The part of the table that is enough for the tiles of a row: the one at hand, if
 // it is that row's, else all of the table.
@@ -33,9 +34,10 @@ fn is_row(near: Near, row: u64) -> bool
 }
 
 // The part of the table for a row of tiles, kept where it is at hand.
-pub(crate) fn near_row(s: State, rects: &[u64], row: u64) -> Near
-    requires { ⌜ RowAsked s (now rects) row ⌝ }
-    ensures { λ r. ⌜ NearHeld (s .head) (take (4 * s .count) (now (rects .entry))) r ⌝ }
+pub(crate) fn near_row(s: State, regions: &[u64], row: u64) -> Near
+    requires { ⌜ RegionsHeld s (now regions) ⌝ }
+    requires { ⌜ row < tilesAcross (s .head) ⌝ }
+    ensures { λ r. ⌜ NearHeld (s .head) (take (4 * s .count) (now (regions .entry))) r ⌝ }
 {
     let near = s.near;
     let head = s.head;
@@ -52,6 +54,6 @@ pub(crate) fn near_row(s: State, rects: &[u64], row: u64) -> Near
         x2: head.size,
         y2: low + side,
     };
-    let part = part_near(&rects[..end], head.gap, b);
+    let part = part_near(&regions[..end], b);
     Near::Row(row, part)
 }

@@ -13,17 +13,24 @@ use crate::limits::AMOUNTS_ROOM;
 use crate::limits::SHAPES_ROOM;
 use spelling::first_line;
 ghost use mathlib.Core.Path.{_≡_};
-ghost use lib.ListN.{replicate};
+ghost use Prim.Native.Nat.{_≤_};
+ghost use lib.ListN.{length};
 ghost use Rattle.spelling.specs.Text.{pieces};
 ghost use Rattle.jobfile.specs.Limits.{unitLimits};
 ghost use Rattle.jobfile.specs.Faults.{beforeHead};
 ghost use Rattle.jobfile.specs.File.{refused, readLines};
-ghost use Rattle.jobfile.specs.Held.{shapesRoom, amountsRoom, Held, LineRead, endFault, jobOf, asJob};
+ghost use Rattle.jobfile.specs.Held.{Cleared, Held, LineRead, endFault, jobOf, asJob};
 
 // Reads the first line of what is left of a file.
-fn read_line(rest: &[u8], s: State, rects: &mut [u64], amounts: &mut [u64]) -> Step
-    requires { ⌜ Held s (now rects) (now amounts) ⌝ }
-    ensures { λ r. ⌜ LineRead (now (rest .entry)) s (now (rects .entry)) (now (amounts .entry)) r (now (rects .exit)) (now (amounts .exit)) ⌝ }
+fn read_line(
+    rest: &[u8],
+    s: State,
+    shapes: &mut [u64],
+    regions: &mut [u64],
+    amounts: &mut [u64],
+) -> Step
+    requires { ⌜ Held s (now shapes) (now regions) (now amounts) ⌝ }
+    ensures { λ r. ⌜ LineRead (now (rest .entry)) s (now (shapes .entry)) (now (regions .entry)) (now (amounts .entry)) r (now (shapes .exit)) (now (regions .exit)) (now (amounts .exit)) ⌝ }
 {
     let n = first_line(rest);
     if rest.len() <= n {
@@ -33,19 +40,20 @@ fn read_line(rest: &[u8], s: State, rects: &mut [u64], amounts: &mut [u64]) -> S
             state: s,
         };
     }
+    let used = n + 1;
     let form = form_of(&rest[..n]);
-    let fault = line_fault(s, form, rects, amounts);
+    let fault = line_fault(s, form, shapes, regions, amounts);
     if fault != 0 {
         return Step {
             fault,
-            used: n + 1,
+            used,
             state: s,
         };
     }
-    let state = enter(s, form, rects, amounts);
+    let state = enter(s, form, shapes, regions, amounts);
     Step {
         fault: 0,
-        used: n + 1,
+        used,
         state,
     }
 }
@@ -62,10 +70,16 @@ fn end_fault(turn: Turn) -> u64
     }
 }
 
-// Reads all lines of a file into cleared tables.
-pub(crate) fn read_lines(file: &[u8], rects: &mut [u64], amounts: &mut [u64]) -> Ending
-    requires { ⌜ (now rects ≡ replicate shapesRoom 0) × (now amounts ≡ replicate amountsRoom 0) ⌝ }
-    ensures { λ e. ⌜ jobOf e (now (rects .exit)) (now (amounts .exit)) ≡ asJob (readLines unitLimits beforeHead 1 (pieces (now (file .entry)))) ⌝ }
+// Reads all lines of a file that is not too long into cleared tables.
+pub(crate) fn read_lines(
+    file: &[u8],
+    shapes: &mut [u64],
+    regions: &mut [u64],
+    amounts: &mut [u64],
+) -> Ending
+    requires { ⌜ length (now file) ≤ unitLimits .bytes ⌝ }
+    requires { ⌜ Cleared (now shapes) (now regions) (now amounts) ⌝ }
+    ensures { λ e. ⌜ jobOf e (now (shapes .exit)) (now (amounts .exit)) ≡ asJob (readLines unitLimits beforeHead 1 (pieces (now (file .entry)))) ⌝ }
 {
     let mut s = State {
         turn: Turn::Before,
@@ -76,7 +90,7 @@ pub(crate) fn read_lines(file: &[u8], rects: &mut [u64], amounts: &mut [u64]) ->
     let mut line: u64 = 1;
     let mut at: usize = 0;
     while at < file.len() {
-        let step = read_line(&file[at..], s, rects, amounts);
+        let step = read_line(&file[at..], s, shapes, regions, amounts);
         let fault = step.fault;
         if fault != 0 {
             return Ending {
@@ -105,7 +119,7 @@ pub(crate) fn refusal(number: u64, line: u64) -> Job
         line,
         head: no_head(),
         count: 0,
-        rects: [0u64; SHAPES_ROOM],
+        shapes: [0u64; SHAPES_ROOM],
         amounts: [0u64; AMOUNTS_ROOM],
     }
 }

@@ -14,27 +14,26 @@ use Rattle.jobfile.specs.declared.Head.{Head}
 use Rattle.jobfile.specs.declared.Job.{Job}
 use Rattle.jobfile.specs.Limits.{unitLimits}
 use Rattle.jobfile.specs.Forms.{planOf}
-use Rattle.jobfile.specs.Faults.{Standing}
 use Rattle.jobfile.specs.File.{Outcome, refused, accepted, outcomeOf}
 use Rattle.jobfile.specs.Held.{asJob}
 use Rattle.unit.specs.declared.run.Answer.{Answer}
-use Rattle.unit.specs.Answering.{quickOf, answerOf, quickIn}
-use Rattle.unit.specs.Ready.{standingOf, jobStanding}
-use Rattle.unit.proofs.Accepting.{accepted-standing}
+use Rattle.unit.specs.Answering.{quickOf, answerFor, quickIn}
+use Rattle.unit.specs.Ready.{jobAnswer}
+use Rattle.unit.proofs.Accepting.{accepted-answer}
 use Rattle.phases.specs.Phase.{phaseNumber, phaseOf}
 
 pub exact-in : (s : Sense) (rs : List Rect) (n w : ℕ) → extremeIn s (exactRun rs n w) ≡ extreme s rs n w
 exact-in Greatest rs n w = refl
 exact-in Least rs n w = refl
 
-pub quick-in : (s : Sense) (st : Standing) → quickOf s st ≡ quickIn s (answerOf st)
-unfolding answerOf
-quick-in Greatest st = refl
-quick-in Least st = refl
+pub quick-in : (s : Sense) (h : Head) (rs : List Rect) (amounts : List ℕ) → quickOf s h rs ≡ quickIn s (answerFor h rs amounts)
+unfolding answerFor
+quick-in Greatest h rs amounts = refl
+quick-in Least h rs amounts = refl
 
 pub verdict-at : (h : Head) (rects amounts : List ℕ) {p : Plan} {v : Verdict} → p ≡ planOf h → v ≡ verdictOf (rectsOf rects) amounts p →
-    v ≡ answerOf (standingOf h rects amounts) .verdict
-unfolding answerOf
+    v ≡ answerFor h (rectsOf rects) amounts .verdict
+unfolding answerFor
 verdict-at h rects amounts ep ev = rw ep at ev
 
 pub other-phase : (k : ℕ) (a : Answer) → (k ≡ 1 → ⊥) → (k ≡ 2 → ⊥) → (k ≡ 3 → ⊥) → (k ≡ 4 → ⊥) → 0 ≡ phaseNumber k a
@@ -57,5 +56,5 @@ module _ (file : List ℕ) (j : Job) (is : j ≡ asJob (outcomeOf unitLimits fil
       go (refused number line) e = refl
       go (accepted st) e = absurd (bad (ap (λ (i : Job). i .fault) e))
 
-  pub accepted-phase : (good : j .fault ≡ 0) {x : ℕ} → x ≡ phaseNumber k (answerOf (jobStanding j)) → x ≡ phaseOf k (outcomeOf unitLimits file)
-  accepted-phase good e = let s = accepted-standing file j is good in e ∙ ap (phaseNumber k) (s .2) ∙ sym (ap (phaseOf k) (s .1))
+  pub accepted-phase : (good : j .fault ≡ 0) {x : ℕ} → x ≡ phaseNumber k (jobAnswer j) → x ≡ phaseOf k (outcomeOf unitLimits file)
+  accepted-phase good e = let s = accepted-answer file j is good in e ∙ ap (phaseNumber k) (s .2) ∙ sym (ap (phaseOf k) (s .1))

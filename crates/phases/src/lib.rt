@@ -9,19 +9,20 @@ use jobfile::Job;
 use sweep::ORDER_ROOM;
 use zoom::Asked;
 ghost use mathlib.Core.Path.{_≡_};
+ghost use Rattle.geometry.specs.Layout.{rectsOf};
 ghost use Rattle.jobfile.specs.Limits.{unitLimits};
 ghost use Rattle.jobfile.specs.File.{outcomeOf};
 ghost use Rattle.sweep.specs.Strips.{Swept};
 ghost use Rattle.extremes.specs.Exact.{extremeIn};
-ghost use Rattle.unit.specs.Answering.{answerOf, quickIn};
-ghost use Rattle.unit.specs.Ready.{Ready, Readable, standingOf, jobStanding};
+ghost use Rattle.unit.specs.Answering.{answerFor, quickIn};
+ghost use Rattle.unit.specs.Ready.{Ready, Readable, jobAnswer};
 ghost use Rattle.phases.specs.Phase.{verdictNumber, phaseNumber, phaseOf};
 
 // The exact run: the greatest area.
 fn greatest_area(head: Head, rects: &[u64], order: &[usize], amounts: &[u64]) -> u64
     requires { ⌜ Ready head (now rects) (now amounts) ⌝ }
     requires { ⌜ Swept (now rects) (now order) ⌝ }
-    ensures { λ r. ⌜ r ≡ answerOf (standingOf head (now (rects .entry)) (now (amounts .entry))) .exact .greatest .area ⌝ }
+    ensures { λ r. ⌜ r ≡ answerFor head (rectsOf (now (rects .entry))) (now (amounts .entry)) .exact .greatest .area ⌝ }
 {
     let exact = extremes::exact_run(rects, order, head.size, head.window);
     exact.greatest.area
@@ -40,7 +41,7 @@ fn extreme_in(sense: Sense, e: Extremes) -> Spot
 fn limit(sense: Sense, head: Head, rects: &[u64], order: &[usize], amounts: &[u64]) -> u64
     requires { ⌜ Ready head (now rects) (now amounts) ⌝ }
     requires { ⌜ Swept (now rects) (now order) ⌝ }
-    ensures { λ r. ⌜ r ≡ quickIn sense (answerOf (standingOf head (now (rects .entry)) (now (amounts .entry)))) .last .limit ⌝ }
+    ensures { λ r. ⌜ r ≡ quickIn sense (answerFor head (rectsOf (now (rects .entry))) (now (amounts .entry))) .last .limit ⌝ }
 {
     let size = head.size;
     let window = head.window;
@@ -70,7 +71,7 @@ fn number_of(v: Verdict) -> u64
 fn judged_number(head: Head, rects: &[u64], order: &[usize], amounts: &[u64]) -> u64
     requires { ⌜ Ready head (now rects) (now amounts) ⌝ }
     requires { ⌜ Swept (now rects) (now order) ⌝ }
-    ensures { λ r. ⌜ r ≡ verdictNumber (answerOf (standingOf head (now (rects .entry)) (now (amounts .entry))) .verdict) ⌝ }
+    ensures { λ r. ⌜ r ≡ verdictNumber (answerFor head (rectsOf (now (rects .entry))) (now (amounts .entry)) .verdict) ⌝ }
 {
     number_of(fill::judge(rects, order, amounts, jobfile::plan_of(head)))
 }
@@ -78,7 +79,7 @@ fn judged_number(head: Head, rects: &[u64], order: &[usize], amounts: &[u64]) ->
 fn ordered_phase(phase: u64, head: Head, rects: &[u64], order: &[usize], amounts: &[u64]) -> u64
     requires { ⌜ Ready head (now rects) (now amounts) ⌝ }
     requires { ⌜ Swept (now rects) (now order) ⌝ }
-    ensures { λ r. ⌜ r ≡ phaseNumber phase (answerOf (standingOf head (now (rects .entry)) (now (amounts .entry)))) ⌝ }
+    ensures { λ r. ⌜ r ≡ phaseNumber phase (answerFor head (rectsOf (now (rects .entry))) (now (amounts .entry))) ⌝ }
 {
     if phase == 1 {
         return greatest_area(head, rects, order, amounts);
@@ -99,7 +100,7 @@ fn ordered_phase(phase: u64, head: Head, rects: &[u64], order: &[usize], amounts
 // phase 0.
 fn phase_number(phase: u64, head: Head, rects: &[u64], amounts: &[u64]) -> u64
     requires { ⌜ Ready head (now rects) (now amounts) ⌝ }
-    ensures { λ r. ⌜ r ≡ phaseNumber phase (answerOf (standingOf head (now (rects .entry)) (now (amounts .entry)))) ⌝ }
+    ensures { λ r. ⌜ r ≡ phaseNumber phase (answerFor head (rectsOf (now (rects .entry))) (now (amounts .entry))) ⌝ }
 {
     if phase == 0 {
         return 0;
@@ -111,14 +112,14 @@ fn phase_number(phase: u64, head: Head, rects: &[u64], amounts: &[u64]) -> u64
 
 fn job_phase(phase: u64, job: Job) -> u64
     requires { ⌜ Readable job ⌝ }
-    ensures { λ r. ⌜ r ≡ phaseNumber phase (answerOf (jobStanding job)) ⌝ }
+    ensures { λ r. ⌜ r ≡ phaseNumber phase (jobAnswer job) ⌝ }
 {
     let head = job.head;
-    let rects = job.rects;
+    let shapes = job.shapes;
     let amounts = job.amounts;
     let numbers = 4 * job.count;
     let tiles = jobfile::tile_count(head);
-    phase_number(phase, head, &rects[..numbers], &amounts[..tiles])
+    phase_number(phase, head, &shapes[..numbers], &amounts[..tiles])
 }
 
 // Reads a file, and runs one phase of an accepted one: 1 the exact run, 2 and 3

@@ -85,7 +85,7 @@ unfoldable pub wellFormed : List ℕ → Bool
 wellFormed [] = true
 wellFormed (c ∷ p) = (not (isPlace c) || endsNumber p) && wellFormed p
 
-ends-digits : (p ns : List ℕ) → endsNumber p ≡ true → (digitsOf (spell p ns) ≡ []) × (pastDigits (spell p ns) ≡ spell p ns)
+pub ends-digits : (p ns : List ℕ) → endsNumber p ≡ true → (digitsOf (spell p ns) ≡ []) × (pastDigits (spell p ns) ≡ spell p ns)
 unfolding digitsOf pastDigits spell
 ends-digits [] ns h = (refl, refl)
 ends-digits (d ∷ p) ns h = rw (spell-byte d p (not-true (isPlace d) (k .1)) ns) (rw (other, digitsOf), rw (other, pastDigits))
@@ -97,7 +97,7 @@ ends-digits (d ∷ p) ns h = rw (spell-byte d p (not-true (isPlace d) (k .1)) ns
     other = not-true (isDigit d) (k .0)
 
 -- a number's spelling, read where a number ends
-read-decimal : (most c : ℕ) (p : List ℕ) → isPlace c ≡ true → (n : ℕ) (t : List ℕ) → length (decimal n) ≤ most → digitsOf t ≡ [] → pastDigits t ≡ t →
+pub read-decimal : (most c : ℕ) (p : List ℕ) → isPlace c ≡ true → (n : ℕ) (t : List ℕ) → length (decimal n) ≤ most → digitsOf t ≡ [] → pastDigits t ≡ t →
     readAs most (c ∷ p) (decimal n ++ t) ≡ withNumber n (readAs most p t)
 read-decimal most c p e n t h d k =
     read-number c p e most (decimal n ++ t) (rw digits (decimal-numeral most n h)) ∙ rw (digits, past, value-decimal n)

@@ -54,18 +54,18 @@ prefixed-more : (ns : List ℕ) (v : ℕ) (o : Option (List ℕ)) → prefixed n
 prefixed-more ns v none = refl
 prefixed-more ns v (some ms) = ap {B = Option (List ℕ)} some (sym (append-assoc ns (v ∷ []) ms))
 
--- the next free cell of the table takes a number
-filled-more : (ns : List ℕ) (v : ℕ) → length ns < mostValues →
-    set (ns ++ replicate (mostValues - length ns) 0) (length ns) v ≡ (ns ++ (v ∷ [])) ++ replicate (mostValues - length (ns ++ (v ∷ []))) 0
-filled-more ns v h =
+-- the next free cell of a table takes a number
+pub filled-more : (room : ℕ) (ns : List ℕ) (v : ℕ) → length ns < room →
+    set (ns ++ replicate (room - length ns) 0) (length ns) v ≡ (ns ++ (v ∷ [])) ++ replicate (room - length (ns ++ (v ∷ []))) 0
+filled-more room ns v h =
     rw (one-less)
-    (set-append-seam ns 0 (replicate (mostValues - suc (length ns)) 0) v ∙ sym (append-assoc ns (v ∷ []) (replicate (mostValues - suc (length ns)) 0))
+    (set-append-seam ns 0 (replicate (room - suc (length ns)) 0) v ∙ sym (append-assoc ns (v ∷ []) (replicate (room - suc (length ns)) 0))
     ∙ ap (λ (n : ℕ). (ns ++ (v ∷ [])) ++ replicate n 0) rest)
   where
-    one-less : mostValues - length ns ≡ suc (mostValues - suc (length ns))
+    one-less : room - length ns ≡ suc (room - suc (length ns))
     one-less = omega arith
 
-    rest : mostValues - suc (length ns) ≡ mostValues - length (ns ++ (v ∷ []))
+    rest : room - suc (length ns) ≡ room - length (ns ++ (v ∷ []))
     rest = omega (arith, length-append ns (v ∷ []))
 
 pub read-start : (most : ℕ) (p s : List ℕ) → ReadTo most p s (replicate mostValues 0) 0 0 0
@@ -110,7 +110,7 @@ module _ (most : ℕ) (p s table : List ℕ) (count at j : ℕ) (inv : ReadTo mo
           record {
             numbers = inv .numbers ++ (n .value ∷ []);
             counted = omega (arith, inv .counted, length-append (inv .numbers) (n .value ∷ []));
-            filled = ap₂ (λ (t : List ℕ) (i : ℕ). set t i (n .value)) (inv .filled) (inv .counted) ∙ filled-more (inv .numbers) (n .value) (omega (arith, inv .counted, room few));
+            filled = ap₂ (λ (t : List ℕ) (i : ℕ). set t i (n .value)) (inv .filled) (inv .counted) ∙ filled-more mostValues (inv .numbers) (n .value) (omega (arith, inv .counted, room few));
             in-pattern = omega arith;
             in-line = omega (arith, inv .in-line, k .1 .1, digits-within (drop at s), length-drop at s);
             left = rw (add-one j) (omega (arith, inv .left, ap places next, places-place (getD p j 0) (drop (suc j) p) is-place));

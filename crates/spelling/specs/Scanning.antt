@@ -36,7 +36,7 @@ places (c ∷ p) = elim (isPlace c) [ true ↦ suc (places p) | false ↦ places
 
 -- the numbers that a reading has room for, as `MOST_VALUES` in src/, and the most digits whose number always fits 64 bits
 abbrev pub mostValues : ℕ
-mostValues = 8
+mostValues = 9
 
 abbrev pub digitsRoom : ℕ
 digitsRoom = 18

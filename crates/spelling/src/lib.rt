@@ -11,7 +11,7 @@ ghost use Rattle.spelling.specs.Pattern.{isPlace, spell, readAs};
 ghost use Rattle.buffers.specs.Written.{Written};
 
 // No pattern asks for more numbers than the head's.
-pub const MOST_VALUES: usize = 8;
+pub const MOST_VALUES: usize = 9;
 
 // What reading a line against a pattern gives: whether the line is the
 // pattern's, and its numbers in order, 0 behind them.

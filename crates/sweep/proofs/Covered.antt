@@ -15,7 +15,7 @@ use Rattle.buffers.proofs.Fronts.{FrontSoFar, front-moves, front-ends, front-fi
 use Rattle.geometry.specs.declared.Rect.{Rect}
 use Rattle.geometry.specs.Sizes.{widest}
 use Rattle.geometry.specs.Count.{one-if, rectSum}
-use Rattle.geometry.specs.Layout.{covered, coveredArea, rectsOf, Drawn}
+use Rattle.geometry.specs.Layout.{covered, coveredArea, rectsOf, Layer}
 use Rattle.geometry.specs.Overlaps.{common}
 use Rattle.geometry.proofs.Counting.{rect-cong, rect-plus, box-cut-columns}
 use Rattle.geometry.proofs.Overlaps.{overlap-is-area}
@@ -121,7 +121,7 @@ module _ (t : List ℕ) (side : Side) (y1 y2 : ℕ) where
       (sides-small k h l))
       (λ _. sides-small k h l)
 
-  pub strip-sides : Drawn t → Sides (stripSides t side y1 y2)
+  pub strip-sides : Layer t → Sides (stripSides t side y1 y2)
   strip-sides d =
       record {
         few = omega (arith, sides-few (placesBy t side), ordered-length (columnOn t side) (length t / 4), d .few);
@@ -170,7 +170,7 @@ module _ (t : List ℕ) (y1 y2 : ℕ) where
   ramps-of side x = strip-sum t side y1 y2 (λ v h. h * (x - v)) (λ v. omega arith)
 
   -- the covered area left of a column
-  left-area : Drawn t → (x : ℕ) → ramps lows x ≡ coveredArea (rectsOf t) (between 0 x) + ramps highs x
+  left-area : Layer t → (x : ℕ) → ramps lows x ≡ coveredArea (rectsOf t) (between 0 x) + ramps highs x
   left-area d x =
       ramps-of Low x
       ∙ rect-cong (rectsOf t) _ _ (λ r. one-rect (r .x1) (r .x2) (common (r .y1) (r .y2) y1 y2) x)
@@ -178,7 +178,7 @@ module _ (t : List ℕ) (y1 y2 : ℕ) where
       ∙ ap₂ _+_ (sym (overlap-is-area (rectsOf t) (between 0 x) (d .apart))) (sym (ramps-of High x))
 
   -- and between two columns
-  pub strip-area : Drawn t → (x1 x2 : ℕ) → x1 ≤ x2 →
+  pub strip-area : Layer t → (x1 x2 : ℕ) → x1 ≤ x2 →
       ramps lows x2 + ramps highs x1 ≡ coveredArea (rectsOf t) (between x1 x2) + (ramps lows x1 + ramps highs x2)
   strip-area d x1 x2 h =
       omega (
@@ -189,7 +189,7 @@ module _ (t : List ℕ) (y1 y2 : ℕ) where
       )
 
 -- so what the rows hold is a strip of theirs
-strip-of : (t : List ℕ) (y1 y2 : ℕ) → Drawn t → StripOf t y1 y2 (stripSides t Low y1 y2) (stripSides t High y1 y2)
+strip-of : (t : List ℕ) (y1 y2 : ℕ) → Layer t → StripOf t y1 y2 (stripSides t Low y1 y2) (stripSides t High y1 y2)
 strip-of t y1 y2 d =
     record {
       low = refl;
@@ -212,7 +212,7 @@ module _ (t : List ℕ) (side : Side) (y1 y2 : ℕ) (places before after : List 
   pub room-behind : (n : ℕ) → n ≤ sidesRoom → stripRoom ≤ length before → n ≤ length (take (length after - r) (drop r after))
   room-behind n h room = omega (arith, sides-count, front-behind before (sidesAt t side y1 y2 places) after r p)
 
-module _ (t : List ℕ) (y1 y2 : ℕ) (before after : List ℕ) (r : Lengths) (d : Drawn t) (e : r .low ≡ length (lows t y1 y2))
+module _ (t : List ℕ) (y1 y2 : ℕ) (before after : List ℕ) (r : Lengths) (d : Layer t) (e : r .low ≡ length (lows t y1 y2))
     (p : Front before (lows t y1 y2 ++ highs t y1 y2) after (r .both)) where
   pub strip-lent : StripIn t y1 y2 after r
   strip-lent =

@@ -8,7 +8,7 @@ use mathlib.Core.List.{List, [], _∷_, _++_}
 use lib.Dec.{ltb}
 use lib.ListN.{length, getD, take, drop}
 use Rattle.geometry.specs.Sizes.{widest, mostRects}
-use Rattle.geometry.specs.Layout.{coveredArea, rectsOf, Drawn}
+use Rattle.geometry.specs.Layout.{coveredArea, rectsOf, Layer}
 use Rattle.geometry.specs.Overlaps.{common}
 use Rattle.sweep.specs.declared.Lengths.{Lengths}
 use Rattle.sweep.specs.declared.Side.{Side}
@@ -74,7 +74,7 @@ pub record Strip (lows highs : List ℕ) : Type 0 where
 
 -- and of a job: rectangles, and the order of their sides, which `order_sides` gives
 pub record Swept (rects order : List ℕ) : Type 0 where
-  pub drawn : Drawn rects
+  pub layer : Layer rects
   pub ordered : order ≡ sideOrder rects
 
 -- the strip of the rows y1 to y2: its two lists, and that what is added up along it is the true area of every box between those rows

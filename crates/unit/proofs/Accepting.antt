@@ -1,25 +1,27 @@
 -- What the unit needs of a file that was read: an accepted one may be run and its tables give what stands; a refused one has a number.
-use Prim.Native.Nat.{ℕ, _+_, _-_, _*_, _≤_}
+use Prim.Native.Nat.{ℕ, _*_}
 use mathlib.Core.Path.{_≡_, refl, sym, ap, _∙_, subst⁻¹}
 use mathlib.Core.List.{List, _++_}
 use native.Mathlib.Nat.{zero-add}
 use native.Mathlib.Omega.{arith}
 use lib.Dec.{lit≤}
-use lib.ListN.{length, take, drop, replicate, length-append, length-replicate}
+use lib.ListN.{length, take, drop}
 use Rattle.fill.proofs.Loads.{tiles-few}
 use Rattle.jobfile.specs.declared.Job.{Job}
 use Rattle.jobfile.specs.Limits.{unitLimits}
+use Rattle.jobfile.specs.Shapes.{rectangles}
 use Rattle.jobfile.specs.Forms.{tilesAcross}
 use Rattle.jobfile.specs.Faults.{Standing}
 use Rattle.jobfile.specs.File.{Outcome, refused, accepted, outcomeOf}
 use Rattle.jobfile.specs.Acceptance.{FirstFault, faulty, unfed, unended, RefusedFile, long, lines}
-use Rattle.jobfile.specs.Held.{shapesRoom, amountsRoom, asJob, tableOf, padded}
-use Rattle.jobfile.proofs.Tables.{length-table, rects-of-table}
+use Rattle.jobfile.specs.Held.{amountsRoom, asJob, tableOf, padded}
+use Rattle.jobfile.proofs.Tables.{rects-of-table}
+use Rattle.jobfile.proofs.ShapeTables.{padded-length, table-corners, table-length}
 use Rattle.jobfile.proofs.Files.{acceptance}
-use Rattle.jobfile.proofs.Accepted.{AcceptedFacts, accepted-facts, padded-front, table-front, amount-room}
+use Rattle.jobfile.proofs.Accepted.{AcceptedFacts, accepted-facts, padded-front, amount-room}
 use Rattle.unit.specs.Answering.{answerOf, textOf}
 use Rattle.unit.specs.Guarantee.{FilePromise}
-use Rattle.unit.specs.Ready.{Ready, jobStanding, Readable}
+use Rattle.unit.specs.Ready.{Ready, jobAnswer, Readable}
 use Rattle.unit.specs.Room.{answerRoom}
 use Rattle.unit.specs.Rendering.{WrittenIn, Rendering}
 use Rattle.unit.proofs.Demand.{Runs, promises-kept}
@@ -46,18 +48,18 @@ promised file =
     let k = acceptance unitLimits file in
     record { meaning = k; promises = λ st a. promises-kept st (facts-run st (accepted-facts file st (k .accepted-if st a))) }
 
-facts-ready : (st : Standing) → AcceptedFacts st → Ready (st .head) (tableOf (st .shapes)) (st .amounts)
+facts-ready : (st : Standing) → AcceptedFacts st → Ready (st .head) (tableOf (rectangles (st .shapes))) (st .amounts)
 facts-ready st f =
     let h = f .head in
     record {
-      drawn = f .drawn;
+      layer = f .layer;
       some-window = h .window-least;
       window-fits = h .window-most;
       small = omega (arith, h .size-most);
       accurate = h .accuracy-most;
       planned = record {
         tiled = record {
-          drawn = f .drawn;
+          layer = f .layer;
           few = h .tiles-most;
           table = f .sized;
           room = amount-room st f;
@@ -74,25 +76,18 @@ facts-ready st f =
 amounts-front : (st : Standing) → AcceptedFacts st → take (tilesAcross (st .head) * tilesAcross (st .head)) (padded amountsRoom (st .amounts)) ≡ st .amounts
 amounts-front st f = ap (λ (n : ℕ). take n (padded amountsRoom (st .amounts))) (sym (f .sized)) ∙ padded-front amountsRoom (st .amounts)
 
-padded-length : (n : ℕ) (s : List ℕ) → length s ≤ n → length (padded n s) ≡ n
-padded-length n s h = length-append s (replicate (n - length s) 0) ∙ ap (λ (k : ℕ). length s + k) (length-replicate (n - length s) 0) ∙ whole
-  where
-    whole : length s + (n - length s) ≡ n
-    whole = omega arith
-
 facts-readable : (st : Standing) → AcceptedFacts st → Readable (asJob (accepted st))
 facts-readable st f =
     record {
       shapes = f .few;
-      room = padded-length shapesRoom (tableOf (st .shapes)) (omega (arith, length-table (st .shapes), f .few));
+      room = table-length (st .shapes) (f .few);
       amounts-room = padded-length amountsRoom (st .amounts) (omega (arith, f .sized, tiles-few (tilesAcross (st .head)) (f .head .tiles-most)));
       tiles = f .head .tiles-most;
-      ready = rw (table-front (st .shapes), amounts-front st f) (facts-ready st f);
+      ready = rw (table-corners (st .shapes), amounts-front st f) (facts-ready st f);
     }
 
-facts-standing : (st : Standing) → AcceptedFacts st → answerOf (jobStanding (asJob (accepted st))) ≡ answerOf st
-unfolding answerOf
-facts-standing st f = rw (table-front (st .shapes), amounts-front st f, rects-of-table (st .shapes))
+facts-answer : (st : Standing) → AcceptedFacts st → jobAnswer (asJob (accepted st)) ≡ answerOf st
+facts-answer st f = rw (table-corners (st .shapes), amounts-front st f, rects-of-table (rectangles (st .shapes)))
 
 -- ---- a refused file
 
@@ -148,24 +143,24 @@ module _ (file : List ℕ) (j : Job) (is : j ≡ asJob (outcomeOf unitLimits fil
     unfolding st
     job-is = is ∙ ap asJob (fault-free good .1)
 
-    -- what stands at the end of the file is what the job's tables give
-    pub accepted-standing : (end : Standing) × (outcomeOf unitLimits file ≡ accepted end) × (answerOf (jobStanding j) ≡ answerOf end)
+    -- the answer by the job's tables is that of what stands at the end of the file
+    pub accepted-answer : (end : Standing) × (outcomeOf unitLimits file ≡ accepted end) × (jobAnswer j ≡ answerOf end)
     unfolding st
-    accepted-standing = (st, fault-free good .1, ap (λ (k : Job). answerOf (jobStanding k)) job-is ∙ facts-standing st facts)
+    accepted-answer = (st, fault-free good .1, ap jobAnswer job-is ∙ facts-answer st facts)
 
     pub accepted-readable : Readable j
     accepted-readable = subst⁻¹ Readable job-is (facts-readable st facts)
 
-    pub accepted-rendering : (l m : List ℕ) (r : ℕ) → WrittenIn answerRoom l 0 (textOf (answerOf (jobStanding j))) m r →
+    pub accepted-rendering : (l m : List ℕ) (r : ℕ) → WrittenIn answerRoom l 0 (textOf (jobAnswer j)) m r →
         Rendering (outcomeOf unitLimits file) l m (record { fault = 0; line = 0; length = r })
-    unfolding st accepted-standing
+    unfolding st accepted-answer
     accepted-rendering l m r w = subst⁻¹ (λ (o : Outcome). Rendering o l m (record { fault = 0; line = 0; length = r })) (fault-free good .1) rendered
       where
-        text : textOf (answerOf (jobStanding j)) ≡ textOf (answerOf st)
-        text = ap textOf (accepted-standing .2)
+        text : textOf (jobAnswer j) ≡ textOf (answerOf st)
+        text = ap textOf (accepted-answer .2)
 
         place : r ≡ length (textOf (answerOf st))
-        place = w .written .place ∙ zero-add (length (textOf (answerOf (jobStanding j)))) ∙ ap length text
+        place = w .written .place ∙ zero-add (length (textOf (jobAnswer j))) ∙ ap length text
 
         rendered : Rendering (accepted st) l m (record { fault = 0; line = 0; length = r })
         rendered =
@@ -173,7 +168,7 @@ module _ (file : List ℕ) (j : Job) (is : j ≡ asJob (outcomeOf unitLimits fil
               numbers = λ i. record { fault = 0; line = 0; length = place i };
               buffer =
                   w .written .buffer
-                  ∙ ap (λ (k : ℕ). textOf (answerOf (jobStanding j)) ++ drop k l) (zero-add (length (textOf (answerOf (jobStanding j)))))
+                  ∙ ap (λ (k : ℕ). textOf (jobAnswer j) ++ drop k l) (zero-add (length (textOf (jobAnswer j))))
                   ∙ ap (λ (t : List ℕ). t ++ drop (length t) l) text;
               short = omega (arith, w .written .place, w .within);
             }

@@ -14,12 +14,12 @@ use Rattle.fill.specs.Judge.{failingInRow, failingInRows, standardFailing, marg
 use Rattle.spelling.specs.Text.{bytes, pieces}
 use Rattle.spelling.specs.Decimal.{decimal, decimalIn, digitsOf, pastDigits, valueFrom, sameBytes}
 use Rattle.spelling.specs.Pattern.{spell, readAs}
-use Rattle.jobfile.specs.Forms.{headPattern, rectPattern, fillPattern, endPattern, formOf}
+use Rattle.jobfile.specs.Forms.{oneGapPattern, twoGapsPattern, rectPattern, dummyPattern, fillPattern, endPattern, formOf}
 use Rattle.jobfile.specs.Faults.{shapeFault, fillFault, lineFault, standsAfter}
 use Rattle.jobfile.specs.File.{readLines, outcomeOf}
-use Rattle.unit.specs.Answering.{answerOf, textOf}
+use Rattle.unit.specs.Answering.{answerFor, textOf}
 use Rattle.unit.specs.Cases.{phaseRows, printedLines, byteRows}
 
 pub cases : foundIn (phaseRows ++ byteRows) ≡ statedIn (phaseRows ++ byteRows)
-unfolding rounded sum rectSum covered bestInRow bestInRows extreme levelOf levelAt runFrom quickRun trailingZeros clearOfAll failingInRow failingInRows standardFailing marginFailing bytes pieces decimal decimalIn digitsOf pastDigits valueFrom sameBytes spell readAs headPattern rectPattern fillPattern endPattern formOf shapeFault fillFault lineFault standsAfter readLines outcomeOf answerOf textOf printedLines
+unfolding rounded sum rectSum covered bestInRow bestInRows extreme levelOf levelAt runFrom quickRun trailingZeros clearOfAll failingInRow failingInRows standardFailing marginFailing bytes pieces decimal decimalIn digitsOf pastDigits valueFrom sameBytes spell readAs oneGapPattern twoGapsPattern rectPattern dummyPattern fillPattern endPattern formOf shapeFault fillFault lineFault standsAfter readLines outcomeOf answerFor textOf printedLines
 cases = refl

@@ -28,20 +28,21 @@ use Rattle.zoom.proofs.Steps.{step-positive}
 use Rattle.zoom.proofs.Starts.{start-fits, fits-start}
 use Rattle.zoom.proofs.Bracket.{Bracketing, Promised, Accurate, quick-run-promises, levels-at-most, named-start, named-over-starts, level-brackets, level-narrows}
 use Rattle.zoom.proofs.RunEnd.{EndsAtLevel, run-end}
+use Rattle.fill.specs.declared.Keepout.{Keepout}
 use Rattle.fill.specs.declared.Plan.{Plan}
 use Rattle.fill.specs.declared.Bound.{Bound}
 use Rattle.fill.specs.declared.Bound.the-variants.{Over, Under}
 use Rattle.fill.specs.declared.Verdict.{Verdict}
 use Rattle.fill.specs.declared.Verdict.the-variants.{Safe, Broken, Undecided}
-use Rattle.fill.specs.Eligible.{tile, fillableArea}
 use Rattle.fill.specs.Judge.{numberAt, boundNumber, verdictNumbers, verdictOf}
 use Rattle.fill.specs.Placement.{Placement}
 use Rattle.fill.proofs.Promise.{Dissected, safe-keeps, broken-breaks}
 use Rattle.fill.proofs.Placing.{placement}
 use Rattle.jobfile.specs.declared.Head.{Head}
+use Rattle.jobfile.specs.Shapes.{rectangles, keepouts}
 use Rattle.jobfile.specs.Forms.{tileSide, tilesAcross, planOf}
-use Rattle.jobfile.specs.Faults.{Standing}
-use Rattle.unit.specs.Answering.{quickOf, answerOf, quickIn}
+use Rattle.jobfile.specs.Faults.{Standing, roomOf}
+use Rattle.unit.specs.Answering.{quickOf, answerFor, answerOf, quickIn}
 use Rattle.unit.specs.Promise.{shapesAt, RealWindow, StartOf, EndsWith, ExactPromise, levelIn, BracketPromise, LevelPromise, QuickPromise, FillPromise, CountPromise, CountsPromise, DensityOff, DensityPromise, Promises}
 
 -- what an accepted head and its amounts say: tiles fit the window and the layout, and no amount exceeds its tile's fillable area
@@ -54,7 +55,7 @@ pub record Runs (st : Standing) : Type 0 where
   pub layout-tiles : st .head .size ≡ tilesAcross (st .head) * tileSide (st .head)
   pub cut-fits : st .head .cut ≤ tilesAcross (st .head)
   pub amounts-fit : (i j : ℕ) → i < tilesAcross (st .head) → j < tilesAcross (st .head) →
-      numberAt (st .amounts) (tilesAcross (st .head)) i j ≤ fillableArea (st .head .gap) (st .shapes) (tile (tileSide (st .head)) i j)
+      numberAt (st .amounts) (tilesAcross (st .head)) i j ≤ roomOf st i j
 
 -- ---- a number tells the case
 
@@ -96,9 +97,9 @@ number-broken (Broken c k l) b i j h = λ t. Broken (bound t) (column t) (row t)
 
 -- ---- the exact run
 
-exact-kept : (s : Sense) (st : Standing) → ExactPromise s st (extreme s (st .shapes) (st .head .size) (st .head .window))
+exact-kept : (s : Sense) (st : Standing) → ExactPromise s st (extreme s (rectangles (st .shapes)) (st .head .size) (st .head .window))
 exact-kept s st =
-    let m = extreme-over-all s (st .shapes) (st .head .size) (st .head .window) in
+    let m = extreme-over-all s (rectangles (st .shapes)) (st .head .size) (st .head .window) in
     record { window = record { position = m .position; area = m .area-is }; none-better = m .none-better; first = m .first }
 
 -- ---- the quick run
@@ -108,7 +109,7 @@ midpoint e m low high a = omega (arith, a .above, a .below)
 
 -- a window at a start, as the code counts them
 start-of : (st : Standing) (j : ℕ) (b : Spot) → 1 ≤ levelStep (st .head .window) j →
-    AtStart (st .shapes) (st .head .size) (st .head .window) (levelStep (st .head .window) j) b → StartOf st j (b .x) (b .y)
+    AtStart (rectangles (st .shapes)) (st .head .size) (st .head .window) (levelStep (st .head .window) j) b → StartOf st j (b .x) (b .y)
 start-of st j b p a =
     let t = levelStep (st .head .window) j in
     let x = ap (λ (c : Spot). c .x) (a .is) in
@@ -124,14 +125,14 @@ start-of st j b p a =
       };
     }
 
-bracket-kept : (s : Sense) (st : Standing) (v : Level) → Bracketing s (st .shapes) (st .head .size) (st .head .window) v →
-    BracketPromise s st v (extreme s (st .shapes) (st .head .size) (st .head .window) .area)
+bracket-kept : (s : Sense) (st : Standing) (v : Level) → Bracketing s (rectangles (st .shapes)) (st .head .size) (st .head .window) v →
+    BracketPromise s st v (extreme s (rectangles (st .shapes)) (st .head .size) (st .head .window) .area)
 bracket-kept s st v b =
     let p = b .named in
     record { named = record { position = record { across = p .across; down = p .down }; area = p .area }; ends = b .bracket }
 
 level-kept : (s : Sense) (st : Standing) → Runs st → (j : ℕ) → j ≤ lastLevel (st .head .window) →
-    LevelPromise s st j (extreme s (st .shapes) (st .head .size) (st .head .window) .area)
+    LevelPromise s st j (extreme s (rectangles (st .shapes)) (st .head .size) (st .head .window) .area)
 level-kept s st r j h =
     record {
       bracket = bracket-kept s st (levelIn s st j) (level-brackets s rs n w (r .some-window) j h (r .window-fits));
@@ -145,7 +146,7 @@ level-kept s st r j h =
     }
   where
     rs : List Rect
-    rs = st .shapes
+    rs = rectangles (st .shapes)
 
     n : ℕ
     n = st .head .size
@@ -157,7 +158,7 @@ level-kept s st r j h =
     step = step-positive w j (r .some-window) h
 
 quick-kept : (s : Sense) (st : Standing) → Runs st →
-    QuickPromise s st (quickOf s st) (extreme s (st .shapes) (st .head .size) (st .head .window) .area)
+    QuickPromise s st (quickOf s (st .head) (rectangles (st .shapes))) (extreme s (rectangles (st .shapes)) (st .head .size) (st .head .window) .area)
 quick-kept s st r =
     record {
       bracket = bracket-kept s st (q .last) (p .ends);
@@ -175,7 +176,7 @@ quick-kept s st r =
     h = st .head
 
     rs : List Rect
-    rs = st .shapes
+    rs = rectangles (st .shapes)
 
     n : ℕ
     n = st .head .size
@@ -184,12 +185,12 @@ quick-kept s st r =
     w = st .head .window
 
     q : Quick
-    q = quickOf s st
+    q = quickOf s (st .head) (rectangles (st .shapes))
 
-    p : Promised s (st .shapes) (st .head .size) (st .head .window) (st .head .accuracy) q
+    p : Promised s (rectangles (st .shapes)) (st .head .size) (st .head .window) (st .head .accuracy) q
     p = quick-run-promises s rs n w (h .accuracy) (h .levels) (r .some-window) (r .window-fits)
 
-    ended : EndsAtLevel s (st .shapes) (st .head .size) (st .head .window) q
+    ended : EndsAtLevel s (rectangles (st .shapes)) (st .head .size) (st .head .window) q
     ended = run-end s rs n w (h .accuracy) (h .levels) (r .some-window) (r .window-fits)
 
     other : (j : ℕ) → EndsWith q j → q .end ≡ Exact → ⊥
@@ -202,8 +203,8 @@ count-kept st p r =
     let b = windowBox (st .head .window) (p .x) (p .y) in
     record {
       shapes = refl;
-      none-counted = λ e. r .area ∙ no-shapes→no-area (st .shapes) b e;
-      none-covered = λ e. no-area→no-shapes (st .shapes) b (sym (r .area) ∙ e);
+      none-counted = λ e. r .area ∙ no-shapes→no-area (rectangles (st .shapes)) b e;
+      none-covered = λ e. no-area→no-shapes (rectangles (st .shapes)) b (sym (r .area) ∙ e);
     }
 
 -- ---- the density
@@ -214,8 +215,8 @@ middle-off : (m low high w d off : ℕ) → 1000 * distance (low + high) (2 * m)
 middle-off m low high w d off h k = omega (arith, h, k)
 
 density-kept : (st : Standing) → Runs st →
-    DensityPromise st (quickOf Greatest st) (extreme Greatest (st .shapes) (st .head .size) (st .head .window) .area) (answerOf st .density)
-unfolding answerOf
+    DensityPromise st (quickOf Greatest (st .head) (rectangles (st .shapes))) (extreme Greatest (rectangles (st .shapes)) (st .head .size) (st .head .window) .area) (answerOf st .density)
+unfolding answerFor
 density-kept st r =
     record {
       middle = middle;
@@ -228,13 +229,13 @@ density-kept st r =
     w = st .head .window
 
     m : ℕ
-    m = extreme Greatest (st .shapes) (st .head .size) w .area
+    m = extreme Greatest (rectangles (st .shapes)) (st .head .size) w .area
 
     low : ℕ
-    low = quickOf Greatest st .last .named .area
+    low = quickOf Greatest (st .head) (rectangles (st .shapes)) .last .named .area
 
     high : ℕ
-    high = quickOf Greatest st .last .limit
+    high = quickOf Greatest (st .head) (rectangles (st .shapes)) .last .limit
 
     d : ℕ
     d = answerOf st .density
@@ -242,10 +243,10 @@ density-kept st r =
     some : 1 ≤ 2 * w * w
     some = some-squares w (r .some-window)
 
-    q : QuickPromise Greatest st (quickOf Greatest st) m
+    q : QuickPromise Greatest st (quickOf Greatest (st .head) (rectangles (st .shapes))) m
     q = quick-kept Greatest st r
 
-    ends : Brackets Greatest (quickOf Greatest st .last) m
+    ends : Brackets Greatest (quickOf Greatest (st .head) (rectangles (st .shapes)) .last) m
     ends = q .bracket .ends
 
     middle : Rounds (10000 * (low + high)) (2 * w * w) d
@@ -267,22 +268,22 @@ corner i across cut side w size h fits w-is size-is = omega (arith, mul-le-mul-r
     whole = omega arith
 
 fill-kept : (st : Standing) → Runs st → FillPromise st (answerOf st .verdict)
-unfolding answerOf
+unfolding answerFor
 fill-kept st k =
     record {
-      safe = λ e chosen p b x y q. safe-keeps gap rs amounts plan size whole chosen p (k .some-tile) (number-safe v e) b x y (q .across) (q .down);
+      safe = λ e chosen p b x y q. safe-keeps ks rs amounts plan size whole chosen p (k .some-tile) (number-safe v e) b x y (q .across) (q .down);
       broken-there = λ b i j e.
-          let s = broken-breaks gap rs amounts plan size whole (some .0) (some .1) b i j (number-broken v b i j e) in
+          let s = broken-breaks ks rs amounts plan size whole (some .0) (some .1) b i j (number-broken v b i j e) in
           record { across = corner-at i (s .column); down = corner-at j (s .row) };
-      broken = λ b i j e chosen p c. broken-breaks gap rs amounts plan size whole chosen p b i j (number-broken v b i j e) .breaks c;
+      broken = λ b i j e chosen p c. broken-breaks ks rs amounts plan size whole chosen p b i j (number-broken v b i j e) .breaks c;
       placeable = some;
     }
   where
-    gap : ℕ
-    gap = st .head .gap
+    ks : List Keepout
+    ks = keepouts (st .head .gap) (st .shapes)
 
     rs : List Rect
-    rs = st .shapes
+    rs = rectangles (st .shapes)
 
     amounts : List ℕ
     amounts = st .amounts
@@ -302,11 +303,11 @@ fill-kept st k =
     corner-at : (i : ℕ) → i ≤ plan .across - plan .cut → i * plan .side ≤ size - plan .window
     corner-at i h = corner i (plan .across) (plan .cut) (plan .side) (plan .window) size h (k .cut-fits) (k .window-tiles) (k .layout-tiles)
 
-    some : (chosen : ℕ → ℕ → Bool) × Placement gap rs amounts plan chosen
-    some = placement gap rs amounts plan (k .amounts-fit)
+    some : (chosen : ℕ → ℕ → Bool) × Placement ks amounts plan chosen
+    some = placement ks amounts plan (k .amounts-fit)
 
 pub promises-kept : (st : Standing) → Runs st → Promises st (answerOf st)
-unfolding answerOf
+unfolding answerFor
 promises-kept st k = record { exact = exact; quick = quick; counts = counts; density = density-kept st k; fill = fill-kept st k }
   where
     exact : (s : Sense) → ExactPromise s st (extremeIn s (answerOf st .exact))

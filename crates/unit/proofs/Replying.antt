@@ -11,15 +11,15 @@ use lib.ListN.{length, take, drop, length-append}
 use lib.Seq.{take-at}
 use Rattle.geometry.specs.Layout.{sharesSquare}
 use Rattle.buffers.specs.Written.{atFront, Front}
-use Rattle.fill.specs.Eligible.{tile, fillableArea}
 use Rattle.fill.specs.Judge.{numberAt}
 use Rattle.spelling.specs.Text.{bytes}
 use Rattle.spelling.specs.Pattern.{spell}
 use Rattle.jobfile.specs.declared.Form.{Form}
-use Rattle.jobfile.specs.declared.Form.the-variants.{Unknown, Heading, Shape, Fill, End}
+use Rattle.jobfile.specs.declared.Form.the-variants.{Unknown, Heading, Metal, Fill, End}
 use Rattle.jobfile.specs.Limits.{Limits, unitLimits}
-use Rattle.jobfile.specs.Forms.{inRange, tileSide, tilesAcross, agrees}
-use Rattle.jobfile.specs.Faults.{Standing, beforeHead, check, inTurn, fitsLayout, known, ownFault, shapeFault, fillFault, lineFault}
+use Rattle.jobfile.specs.Shapes.{rectangles}
+use Rattle.jobfile.specs.Forms.{inRange, tilesAcross, agrees}
+use Rattle.jobfile.specs.Faults.{Standing, beforeHead, check, inTurn, fitsLayout, known, ownFault, shapeFault, roomOf, fillFault, lineFault}
 use Rattle.jobfile.specs.File.{Outcome, refused, accepted, outcomeOf}
 use Rattle.jobfile.specs.Acceptance.{spellingOf, formsText, LineFault, spelled, unspelled, FirstFault, faulty, unfed, unended, RefusedFile, long, lines}
 use Rattle.jobfile.proofs.Files.{acceptance}
@@ -47,12 +47,13 @@ module _ (m : Limits) where
   unfolding shapeFault fillFault
   own-small st Unknown = lit≤ tt
   own-small st (Heading h) = most-check 12 (agrees m h) 5 0 (lit≤ tt) (lit≤ tt)
-  own-small st (Shape r) =
-      three-small (fitsLayout (st .head) r) (ltb (length (st .shapes)) (m .shapes)) (not (sharesSquare (st .shapes) r)) 6 8 9 (lit≤ tt) (lit≤ tt) (lit≤ tt)
+  own-small st (Metal s) =
+      three-small (fitsLayout (st .head) (s .rect)) (ltb (length (st .shapes)) (m .shapes)) (not (sharesSquare (rectangles (st .shapes)) (s .rect))) 6 8 9
+      (lit≤ tt) (lit≤ tt) (lit≤ tt)
   own-small st (Fill i j p) =
       let h = st .head in
       three-small (ltb i (tilesAcross h) && ltb j (tilesAcross h)) (eqb (numberAt (st .amounts) (tilesAcross h) i j) 0)
-      (leb p (fillableArea (h .gap) (st .shapes) (tile (tileSide h) i j))) 7 10 11 (lit≤ tt) (lit≤ tt) (lit≤ tt)
+      (leb p (roomOf st i j)) 7 10 11 (lit≤ tt) (lit≤ tt) (lit≤ tt)
   own-small st End = lit≤ tt
 
   fault-small : (st : Standing) (f : Form) → lineFault m st f ≤ 12

@@ -25,8 +25,8 @@ use Rattle.jobfile.specs.declared.Head.{Head}
 use Rattle.jobfile.specs.Forms.{tilesAcross, planOf}
 use Rattle.unit.specs.declared.run.Counts.{Counts}
 use Rattle.unit.specs.declared.run.Answer.{Answer}
-use Rattle.unit.specs.Answering.{quickOf, countsOf, answerOf}
-use Rattle.unit.specs.Ready.{SmallSpot, SmallSpots, Ready, standingOf}
+use Rattle.unit.specs.Answering.{quickOf, countsOf, answerFor}
+use Rattle.unit.specs.Ready.{SmallSpot, SmallSpots, Ready}
 
 -- counts by their four numbers
 pub same-counts : {a b c d max min floor high : ℕ} → a ≡ max → b ≡ min → c ≡ floor → d ≡ high →
@@ -35,7 +35,7 @@ same-counts p q r s = λ i. record { max = p i; min = q i; floor = r i; high = s
 
 module _ (h : Head) (rects amounts : List ℕ) where
   abbrev quick : Sense → Quick
-  quick s = quickOf s (standingOf h rects amounts)
+  quick s = quickOf s h (rectsOf rects)
 
   -- what a quick run asks, after the exact run
   pub runnable : (s : Sense) → Ready h rects amounts → (order : List ℕ) → Swept rects order → {m : Spot} → m ≡ extreme s (rectsOf rects) (h .size) (h .window) →
@@ -89,8 +89,8 @@ module _ (h : Head) (rects amounts : List ℕ) where
   pub answer-is : (x : Extremes) (q l : Quick) (k : Counts) (d : ℕ) (p : Plan) (v : Verdict) → x ≡ exactRun (rectsOf rects) (h .size) (h .window) →
       q ≡ quick Greatest → l ≡ quick Least → k ≡ countsOf (rectsOf rects) (h .window) x q l → d ≡ density (h .window) (q .last .named .area) (q .last .limit) →
       p ≡ planOf h → v ≡ verdictOf (rectsOf rects) amounts p →
-      _≡_ {A = Answer} (record { exact = x; greatest = q; least = l; counts = k; density = d; verdict = v }) (answerOf (standingOf h rects amounts))
-  unfolding answerOf
+      _≡_ {A = Answer} (record { exact = x; greatest = q; least = l; counts = k; density = d; verdict = v }) (answerFor h (rectsOf rects) amounts)
+  unfolding answerFor
   answer-is x q l k d p v ex eq el ek ed ep ev = rw (ev, ep, ek, ed, ex, eq, el)
 
   -- what judging the fill asks
@@ -101,6 +101,6 @@ module _ (h : Head) (rects amounts : List ℕ) where
   pub ready-at : (k : ℕ) → k ≡ tilesAcross h * tilesAcross h → Ready h rects (take (tilesAcross h * tilesAcross h) amounts) → Ready h rects (take k amounts)
   ready-at k e r = rw e r
 
-  pub run-at : (k : ℕ) → k ≡ tilesAcross h * tilesAcross h → {a : Answer} → a ≡ answerOf (standingOf h rects (take k amounts)) →
-      a ≡ answerOf (standingOf h rects (take (tilesAcross h * tilesAcross h) amounts))
+  pub run-at : (k : ℕ) → k ≡ tilesAcross h * tilesAcross h → {a : Answer} → a ≡ answerFor h (rectsOf rects) (take k amounts) →
+      a ≡ answerFor h (rectsOf rects) (take (tilesAcross h * tilesAcross h) amounts)
   run-at k e p = rw e at p

@@ -20,14 +20,16 @@ use Rattle.fill.specs.declared.Verdict.the-variants.{Safe, Broken, Undecided}
 use Rattle.fill.specs.Judge.{verdictOf}
 use Rattle.spelling.specs.Text.{bytes}
 use Rattle.spelling.specs.Pattern.{spell}
+use Rattle.jobfile.specs.declared.Head.{Head}
+use Rattle.jobfile.specs.Shapes.{rectangles}
 use Rattle.jobfile.specs.Forms.{planOf}
 use Rattle.jobfile.specs.Faults.{Standing}
 use Rattle.unit.specs.declared.run.Counts.{Counts}
 use Rattle.unit.specs.declared.run.Answer.{Answer}
 
 -- the quick run for an extreme; both have the head's accuracy and levels, and each ends by its own test
-abbrev pub quickOf : Sense → Standing → Quick
-quickOf s st = let h = st .head in quickRun s (st .shapes) (h .size) (h .window) (h .accuracy) (h .levels)
+abbrev pub quickOf : Sense → Head → List Rect → Quick
+quickOf s h rs = quickRun s rs (h .size) (h .window) (h .accuracy) (h .levels)
 
 -- the shapes under each window that an answer names; after floor and high it may be an earlier level's
 abbrev pub countsOf : List Rect → (w : ℕ) → Extremes → (greatest least : Quick) → Counts
@@ -40,21 +42,25 @@ countsOf rs w e q l =
     }
 
 -- the exact run, the quick runs for the greatest and for the least window, the shapes under the windows that these name, the density of the first
--- quick run's bracket and the verdict on the fill
-unfoldable pub answerOf : Standing → Answer
-answerOf st =
-    let h = st .head in
-    let e = exactRun (st .shapes) (h .size) (h .window) in
-    let q = quickOf Greatest st in
-    let l = quickOf Least st in
+-- quick run's bracket and the verdict on the fill, by a list of rectangles
+unfoldable pub answerFor : Head → List Rect → (amounts : List ℕ) → Answer
+answerFor h rs amounts =
+    let e = exactRun rs (h .size) (h .window) in
+    let q = quickOf Greatest h rs in
+    let l = quickOf Least h rs in
     record {
       exact = e;
       greatest = q;
       least = l;
-      counts = countsOf (st .shapes) (h .window) e q l;
+      counts = countsOf rs (h .window) e q l;
       density = density (h .window) (q .last .named .area) (q .last .limit);
-      verdict = verdictOf (st .shapes) (st .amounts) (planOf h);
+      verdict = verdictOf rs amounts (planOf h);
     }
+
+-- an accepted job is answered by the rectangles of all its shapes, drawn metal and dummies alike: their kinds and the gaps decide which fills are
+-- good, and nothing else
+abbrev pub answerOf : Standing → Answer
+answerOf st = answerFor (st .head) (rectangles (st .shapes)) (st .amounts)
 
 -- the quick run of a sense
 abbrev pub quickIn : Sense → Answer → Quick

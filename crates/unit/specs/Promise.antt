@@ -19,6 +19,7 @@ use Rattle.fill.specs.declared.Bound.{Bound}
 use Rattle.fill.specs.declared.Verdict.{Verdict}
 use Rattle.fill.specs.Judge.{boundNumber, verdictNumbers}
 use Rattle.fill.specs.Placement.{Placement, placedSum, keeps}
+use Rattle.jobfile.specs.Shapes.{rectangles, keepouts}
 use Rattle.jobfile.specs.Forms.{tileSide, planOf}
 use Rattle.jobfile.specs.Faults.{Standing}
 use Rattle.unit.specs.declared.run.Answer.{Answer}
@@ -30,11 +31,11 @@ PositionOf st x y = Position (st .head .size) (st .head .window) x y
 
 -- the area of the window at a position
 abbrev pub areaAt : Standing → (x y : ℕ) → ℕ
-areaAt st x y = windowArea (st .shapes) (st .head .window) x y
+areaAt st x y = windowArea (rectangles (st .shapes)) (st .head .window) x y
 
 -- the shapes under the window at a position
 abbrev pub shapesAt : Standing → (x y : ℕ) → ℕ
-shapesAt st x y = windowShapes (st .shapes) (st .head .window) x y
+shapesAt st x y = windowShapes (rectangles (st .shapes)) (st .head .window) x y
 
 -- a named window is a position, and the area named with it is its area
 pub record RealWindow (st : Standing) (p : Spot) : Type 0 where
@@ -47,11 +48,11 @@ Earliest st p = (x y : ℕ) → PositionOf st x y → areaAt st x y ≡ p .area 
 
 -- a choice of unit squares is a placement of the job's fill
 abbrev pub Places : Standing → (ℕ → ℕ → Bool) → Type 0
-Places st chosen = Placement (st .head .gap) (st .shapes) (st .amounts) (planOf (st .head)) chosen
+Places st chosen = Placement (keepouts (st .head .gap) (st .shapes)) (st .amounts) (planOf (st .head)) chosen
 
 -- under a placement the position (x, y) keeps a bound
 abbrev pub KeepsAt : Standing → (ℕ → ℕ → Bool) → Bound → (x y : ℕ) → Type 0
-KeepsAt st chosen b x y = T (keeps b (planOf (st .head)) (placedSum (st .shapes) chosen (st .head .window) x y))
+KeepsAt st chosen b x y = T (keeps b (planOf (st .head)) (placedSum (rectangles (st .shapes)) chosen (st .head .window) x y))
 
 -- an extreme of the exact run: its area is that of the window it names; no position has more, or for the minimum less; and none before it has
 -- the same
@@ -70,7 +71,7 @@ pub record StartOf (st : Standing) (j x y : ℕ) : Type 0 where
 
 -- level j of a quick run, whether the run does it or ends before it
 abbrev pub levelIn : Sense → Standing → (j : ℕ) → Level
-levelIn s st j = levelAt s (st .shapes) (st .head .size) (st .head .window) j
+levelIn s st j = levelAt s (rectangles (st .shapes)) (st .head .size) (st .head .window) j
 
 -- what a level says beside the extreme m, M or the minimum: F, or high, is the area of the window named, and F ≤ M ≤ C, or
 -- low ≤ minimum ≤ high
@@ -109,7 +110,7 @@ pub record QuickPromise (s : Sense) (st : Standing) (q : Quick) (m : ℕ) : Type
   pub each-level : (j : ℕ) → j ≤ lastLevel (st .head .window) → LevelPromise s st j m
   pub narrows : (j : ℕ) → j < lastLevel (st .head .window) → Narrows s (levelIn s st j) (levelIn s st (suc j))
 
--- a count that is printed with a named window is the number of drawn rectangles that share a unit square with it, and 0 exactly if its area is
+-- a count that is printed with a named window is the number of shapes that share a unit square with it, and 0 exactly if its area is
 pub record CountPromise (st : Standing) (p : Spot) (count : ℕ) : Type 0 where
   pub shapes : count ≡ shapesAt st (p .x) (p .y)
   pub none-counted : count ≡ 0 → p .area ≡ 0

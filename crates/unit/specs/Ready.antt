@@ -5,26 +5,22 @@ use mathlib.Core.List.{List}
 use lib.ListN.{length, take}
 use Rattle.geometry.specs.declared.Spot.{Spot}
 use Rattle.geometry.specs.Sizes.{widest}
-use Rattle.geometry.specs.Layout.{Drawn, rectsOf}
+use Rattle.geometry.specs.Layout.{Layer, rectsOf}
 use Rattle.extremes.specs.declared.Extremes.{Extremes}
 use Rattle.zoom.specs.declared.Quick.{Quick}
 use Rattle.zoom.specs.Sizes.{mostAccuracy}
 use Rattle.fill.specs.Sizes.{Planned}
 use Rattle.jobfile.specs.declared.Head.{Head}
 use Rattle.jobfile.specs.declared.Job.{Job}
-use Rattle.jobfile.specs.declared.Turn.the-variants.{Done}
 use Rattle.jobfile.specs.Limits.{unitLimits}
 use Rattle.jobfile.specs.Forms.{tilesAcross, planOf}
-use Rattle.jobfile.specs.Faults.{Standing}
 use Rattle.jobfile.specs.Held.{shapesRoom, amountsRoom, tileCount}
-
--- what a head and the two tables stand for
-abbrev pub standingOf : Head → (rects amounts : List ℕ) → Standing
-standingOf h rects amounts = record { turn = Done; head = h; shapes = rectsOf rects; amounts = amounts }
+use Rattle.unit.specs.declared.run.Answer.{Answer}
+use Rattle.unit.specs.Answering.{answerFor}
 
 -- what 64 bits ask of a job that is run
 pub record Ready (h : Head) (rects amounts : List ℕ) : Type 0 where
-  pub drawn : Drawn rects
+  pub layer : Layer rects
   pub some-window : 1 ≤ h .window
   pub window-fits : h .window ≤ h .size
   pub small : h .size ≤ widest
@@ -42,20 +38,20 @@ pub record SmallSpots (w : ℕ) (e : Extremes) (greatest least : Quick) : Type 0
   pub floor : SmallSpot w (greatest .last .named)
   pub high : SmallSpot w (least .last .named)
 
--- the tables of a job that was read, without the zeros behind them, and what stands at its end
+-- the corners and the amounts of a job that was read, without what stands behind them, and its answer
 abbrev pub jobRects : Job → List ℕ
-jobRects j = take (4 * j .count) (j .rects)
+jobRects j = take (4 * j .count) (j .shapes)
 
 abbrev pub jobAmounts : Job → List ℕ
 jobAmounts j = take (tileCount (j .head)) (j .amounts)
 
-abbrev pub jobStanding : Job → Standing
-jobStanding j = standingOf (j .head) (jobRects j) (jobAmounts j)
+abbrev pub jobAnswer : Job → Answer
+jobAnswer j = answerFor (j .head) (rectsOf (jobRects j)) (jobAmounts j)
 
 -- a job that was read may be run
 pub record Readable (j : Job) : Type 0 where
   pub shapes : j .count ≤ unitLimits .shapes
-  pub room : length (j .rects) ≡ shapesRoom
+  pub room : length (j .shapes) ≡ shapesRoom
   pub amounts-room : length (j .amounts) ≡ amountsRoom
   pub tiles : tilesAcross (j .head) ≤ unitLimits .tiles
   pub ready : Ready (j .head) (jobRects j) (jobAmounts j)

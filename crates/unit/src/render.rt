@@ -6,8 +6,8 @@ ghost use Prim.Native.Nat.{_*_, _≤_};
 ghost use lib.ListN.{length};
 ghost use Rattle.jobfile.specs.Limits.{unitLimits};
 ghost use Rattle.jobfile.specs.File.{outcomeOf};
-ghost use Rattle.unit.specs.Answering.{answerOf, textOf};
-ghost use Rattle.unit.specs.Ready.{jobStanding, Readable};
+ghost use Rattle.unit.specs.Answering.{textOf};
+ghost use Rattle.unit.specs.Ready.{jobAnswer, Readable};
 ghost use Rattle.unit.specs.Room.{answerRoom};
 ghost use Rattle.unit.specs.Rendering.{WrittenIn, Rendering};
 
@@ -23,14 +23,14 @@ pub(crate) struct Rendered {
 fn render_job(job: Job, text: &mut [u8]) -> usize
     requires { ⌜ Readable job ⌝ }
     requires { ⌜ answerRoom ≤ length (now text) ⌝ }
-    ensures { λ r. ⌜ WrittenIn answerRoom (now (text .entry)) 0 (textOf (answerOf (jobStanding job))) (now (text .exit)) r ⌝ }
+    ensures { λ r. ⌜ WrittenIn answerRoom (now (text .entry)) 0 (textOf (jobAnswer job)) (now (text .exit)) r ⌝ }
 {
     let head = job.head;
-    let rects = job.rects;
+    let shapes = job.shapes;
     let amounts = job.amounts;
     let numbers = 4 * job.count;
     let tiles = jobfile::tile_count(head);
-    let answer = run(head, &rects[..numbers], &amounts[..tiles]);
+    let answer = run(head, &shapes[..numbers], &amounts[..tiles]);
     write_answer(answer, text)
 }
 

@@ -8,11 +8,11 @@ use sweep::ORDER_ROOM;
 use zoom::Asked;
 use zoom::Quick;
 ghost use mathlib.Core.Path.{_≡_};
-ghost use Rattle.geometry.specs.Layout.{rectsOf, Drawn};
+ghost use Rattle.geometry.specs.Layout.{rectsOf, Layer};
 ghost use Rattle.sweep.specs.Strips.{Swept};
 ghost use Rattle.extremes.specs.Exact.{windowShapes};
-ghost use Rattle.unit.specs.Answering.{countsOf, answerOf};
-ghost use Rattle.unit.specs.Ready.{SmallSpot, SmallSpots, Ready, standingOf};
+ghost use Rattle.unit.specs.Answering.{countsOf, answerFor};
+ghost use Rattle.unit.specs.Ready.{SmallSpot, SmallSpots, Ready};
 
 // The shapes under each window that an answer names, by the word it stands after.
 pub struct Counts {
@@ -34,7 +34,7 @@ pub struct Answer {
 
 // The shapes under a named window of side w.
 fn shapes_at(rects: &[u64], w: u64, p: Spot) -> u64
-    requires { ⌜ Drawn (now rects) ⌝ }
+    requires { ⌜ Layer (now rects) ⌝ }
     requires { ⌜ SmallSpot w p ⌝ }
     ensures { λ r. ⌜ r ≡ windowShapes (rectsOf (now (rects .entry))) w (p .x) (p .y) ⌝ }
 {
@@ -45,7 +45,7 @@ fn shapes_at(rects: &[u64], w: u64, p: Spot) -> u64
 // The shapes under the windows that the runs name, counted once for each: no
 // search carries them along.
 fn counts_of(rects: &[u64], w: u64, exact: Extremes, greatest: Quick, least: Quick) -> Counts
-    requires { ⌜ Drawn (now rects) ⌝ }
+    requires { ⌜ Layer (now rects) ⌝ }
     requires { ⌜ SmallSpots w exact greatest least ⌝ }
     ensures { λ r. ⌜ r ≡ countsOf (rectsOf (now (rects .entry))) w exact greatest least ⌝ }
 {
@@ -66,7 +66,7 @@ fn counts_of(rects: &[u64], w: u64, exact: Extremes, greatest: Quick, least: Qui
 fn run_ordered(head: Head, rects: &[u64], order: &[usize], amounts: &[u64]) -> Answer
     requires { ⌜ Ready head (now rects) (now amounts) ⌝ }
     requires { ⌜ Swept (now rects) (now order) ⌝ }
-    ensures { λ r. ⌜ r ≡ answerOf (standingOf head (now (rects .entry)) (now (amounts .entry))) ⌝ }
+    ensures { λ r. ⌜ r ≡ answerFor head (rectsOf (now (rects .entry))) (now (amounts .entry)) ⌝ }
 {
     let size = head.size;
     let window = head.window;
@@ -97,7 +97,7 @@ fn run_ordered(head: Head, rects: &[u64], order: &[usize], amounts: &[u64]) -> A
 // The answer to a job. Its sides are sorted once, for all runs.
 pub(crate) fn run(head: Head, rects: &[u64], amounts: &[u64]) -> Answer
     requires { ⌜ Ready head (now rects) (now amounts) ⌝ }
-    ensures { λ r. ⌜ r ≡ answerOf (standingOf head (now (rects .entry)) (now (amounts .entry))) ⌝ }
+    ensures { λ r. ⌜ r ≡ answerFor head (rectsOf (now (rects .entry))) (now (amounts .entry)) ⌝ }
 {
     let mut order = [0usize; ORDER_ROOM];
     let count = sweep::order_sides(rects, &mut order);

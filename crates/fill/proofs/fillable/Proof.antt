@@ -1,19 +1,19 @@
--- `fill::fillable` meets its contract: what is free of the part is what is fillable by the table. Assumes nothing.
+-- `fill::fillable` meets its contract: what is free by the part is free by the table. Assumes nothing.
 use native.Mathlib.Omega.{arith}
 use borrow.Author.Needs.{needs}
-use Rattle.fill.proofs.Near.{small-part, part-counts}
+use Rattle.fill.proofs.Near.{part-counts}
 use Rattle.fill.proofs.fillable.Statement.{statement}
 use Rattle.fill.proofs.fillable.Tie as tie
 
 free-from-requires : tie.Need-free-from-requires
 free-from-requires c κs =
     let s = c .before .before in
-    (omega arith, small-part (s .args .gap) (s .args .rects .now) (s .args .b) (s .args .near) (s .pre .0))
+    (omega arith, s .pre .0)
 
 returns : tie.Need-returns
 returns c =
     let s = c .before .before .before in
-    part-counts (s .args .gap) (s .args .rects .now) (s .args .b) (s .args .near) _ (s .pre .1) (c .free-from .ensures)
+    part-counts (s .args .regions .now) (s .args .b) (s .args .near) _ (s .pre .1) (c .free-from .ensures)
 
 pub fillable-spec : {M : Type 1} → statement M
 fillable-spec =

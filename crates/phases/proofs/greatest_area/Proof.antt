@@ -2,12 +2,12 @@
 use borrow.Author.Needs.{needs}
 use mathlib.Core.Path.{ap}
 use Rattle.extremes.specs.declared.Extremes.{Extremes}
-use Rattle.unit.specs.Answering.{answerOf}
+use Rattle.unit.specs.Answering.{answerFor}
 use Rattle.phases.proofs.greatest_area.Statement.{statement}
 use Rattle.phases.proofs.greatest_area.Tie as tie
 
 returns : tie.Need-returns
-unfolding answerOf
+unfolding answerFor
 returns c = ap (λ (e : Extremes). e .greatest .area) (c .exact-run .ensures)
 
 pub greatest-area-spec : {M : Type 1} → statement M

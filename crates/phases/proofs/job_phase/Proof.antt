@@ -12,12 +12,12 @@ use Rattle.phases.specs.Phase.{phaseNumber}
 use Rattle.phases.proofs.job_phase.Statement.{statement}
 use Rattle.phases.proofs.job_phase.Tie as tie
 
-array-share-prefix-rects : tie.Need-array-share-prefix-rects
-array-share-prefix-rects c = let r = c .before .before .before .before .before .pre in omega (arith, r .shapes, r .room)
+array-share-prefix-shapes : tie.Need-array-share-prefix-shapes
+array-share-prefix-shapes c = let r = c .before .before .before .before .before .pre in omega (arith, r .shapes, r .room)
 
 slice-aggregate-phase-number : tie.Need-slice-aggregate-phase-number
 slice-aggregate-phase-number c =
-    let s = c .before .before .before .before .before .before in sym (length-take-le (4 * s .args .job .count) (s .args .job .rects) (omega (arith, s .pre .shapes, s .pre .room)))
+    let s = c .before .before .before .before .before .before in sym (length-take-le (4 * s .args .job .count) (s .args .job .shapes) (omega (arith, s .pre .shapes, s .pre .room)))
 
 array-share-prefix-amounts : tie.Need-array-share-prefix-amounts
 array-share-prefix-amounts c =
@@ -44,4 +44,4 @@ returns c =
     ∙ ap (phaseNumber (s .args .phase)) (run-at (s .args .job .head) (jobRects (s .args .job)) (s .args .job .amounts) (k .result) (k .ensures) refl)
 
 pub job-phase-spec : {M : Type 1} → statement M
-job-phase-spec = tie.close (tie.spec (λ c. omega (arith, c .before .before .before .before .pre .shapes)) (λ c κs. search needs) array-share-prefix-rects slice-aggregate-phase-number array-share-prefix-amounts slice-aggregate-phase-number-2 phase-number-requires returns)
+job-phase-spec = tie.close (tie.spec (λ c. omega (arith, c .before .before .before .before .pre .shapes)) (λ c κs. search needs) array-share-prefix-shapes slice-aggregate-phase-number array-share-prefix-amounts slice-aggregate-phase-number-2 phase-number-requires returns)

@@ -4,7 +4,6 @@ use mathlib.Core.Path.{ap, _∙_}
 use Rattle.geometry.specs.Layout.{rectsOf}
 use Rattle.extremes.specs.Exact.{extremeIn}
 use Rattle.zoom.specs.declared.Quick.{Quick}
-use Rattle.unit.specs.Ready.{standingOf}
 use Rattle.unit.proofs.Running.{runnable}
 use Rattle.phases.proofs.Laws.{exact-in, quick-in}
 use Rattle.phases.proofs.limit.Statement.{statement}
@@ -21,7 +20,7 @@ returns : tie.Need-returns
 returns c =
     let s = c .before .before .before .before .before .before in
     ap (λ (q : Quick). q .last .limit)
-    (c .quick-run .ensures ∙ quick-in (s .args .sense) (standingOf (s .args .head) (s .args .rects .now) (s .args .amounts .now)))
+    (c .quick-run .ensures ∙ quick-in (s .args .sense) (s .args .head) (rectsOf (s .args .rects .now)) (s .args .amounts .now))
 
 pub limit-spec : {M : Type 1} → statement M
 limit-spec = tie.close (tie.spec (λ c κs. search needs) (λ c κs. search needs) quick-run-requires returns)

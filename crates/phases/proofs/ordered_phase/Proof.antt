@@ -1,7 +1,7 @@
 -- `phases::ordered_phase` meets its contract. Assumes nothing.
 use borrow.Author.Needs.{needs}
-use Rattle.unit.specs.Answering.{answerOf}
-use Rattle.unit.specs.Ready.{standingOf}
+use Rattle.geometry.specs.Layout.{rectsOf}
+use Rattle.unit.specs.Answering.{answerFor}
 use Rattle.phases.proofs.Laws.{other-phase, told-phase}
 use Rattle.phases.proofs.ordered_phase.Statement.{statement}
 use Rattle.phases.proofs.ordered_phase.Tie as tie
@@ -21,7 +21,7 @@ returns-4 c = told-phase _ 4 _ (c .before .if4 .taken) (c .judged-number .ensure
 returns-5 : tie.Need-returns-5
 returns-5 c =
     let s = c .before .before .before .before .before .before .before in
-    other-phase (s .args .phase) (answerOf (standingOf (s .args .head) (s .args .rects .now) (s .args .amounts .now)))
+    other-phase (s .args .phase) (answerFor (s .args .head) (rectsOf (s .args .rects .now)) (s .args .amounts .now))
     (c .before .before .before .if1 .left) (c .before .before .if2 .left) (c .before .if3 .left) (c .if4 .left)
 
 pub ordered-phase-spec : {M : Type 1} → statement M

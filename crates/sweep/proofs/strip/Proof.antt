@@ -17,7 +17,7 @@ slice-aggregate-sides-of c =
 sides-of-requires : tie.Need-sides-of-requires
 sides-of-requires c κs =
     let s = c .before .before .before .before .before in
-    let p = low-places (s .args .rects .now) (s .args .order .now) (s .pre .0 .ordered) (s .pre .0 .drawn) in
+    let p = low-places (s .args .rects .now) (s .args .order .now) (s .pre .0 .ordered) (s .pre .0 .layer) in
     (p .0, omega (arith, p .1, s .pre .1))
 
 half : tie.Need-sub-sides-of
@@ -28,21 +28,21 @@ half c =
 low-fits : tie.Need-mul-sides-of-2
 low-fits c =
     let s = c .before .before .before .before .before .before .before .before .before in
-    let p = low-places (s .args .rects .now) (s .args .order .now) (s .pre .0 .ordered) (s .pre .0 .drawn) in
+    let p = low-places (s .args .rects .now) (s .args .order .now) (s .pre .0 .ordered) (s .pre .0 .layer) in
     omega (arith, sides-count _ _ _ _ _ _ _ _ (c .before .before .before .sides-of .ensures) (p .1))
 
 sides-of-requires-2 : tie.Need-sides-of-requires-2
 sides-of-requires-2 c κs =
     let s = c .before .before .before .before .before .before .before .before .before .before in
-    let p = low-places (s .args .rects .now) (s .args .order .now) (s .pre .0 .ordered) (s .pre .0 .drawn) in
-    let q = high-places (s .args .rects .now) (s .args .order .now) (s .pre .0 .ordered) (s .pre .0 .drawn) in
+    let p = low-places (s .args .rects .now) (s .args .order .now) (s .pre .0 .ordered) (s .pre .0 .layer) in
+    let q = high-places (s .args .rects .now) (s .args .order .now) (s .pre .0 .ordered) (s .pre .0 .layer) in
     (q .0, room-behind _ _ _ _ _ _ _ _ (c .before .before .before .before .sides-of .ensures) (p .1) _ (q .1) (s .pre .1))
 
 both-fit : tie.Need-add-t9
 both-fit c =
     let s = c .before .before .before .before .before .before .before .before .before .before .before .before .before in
-    let p = low-places (s .args .rects .now) (s .args .order .now) (s .pre .0 .ordered) (s .pre .0 .drawn) in
-    let q = high-places (s .args .rects .now) (s .args .order .now) (s .pre .0 .ordered) (s .pre .0 .drawn) in
+    let p = low-places (s .args .rects .now) (s .args .order .now) (s .pre .0 .ordered) (s .pre .0 .layer) in
+    let q = high-places (s .args .rects .now) (s .args .order .now) (s .pre .0 .ordered) (s .pre .0 .layer) in
     omega (
       arith,
       sides-count _ _ _ _ _ _ _ _ (c .before .before .before .before .before .before .before .sides-of .ensures) (p .1),
@@ -59,7 +59,7 @@ returns c =
     let high =
     sides-known (a .rects .now) High (a .y1) (a .y2) _ _ _ _ (order-high (a .rects .now) (a .order .now) (s .pre .0 .ordered)) (c .before .before .sides-of2 .ensures) in
     let both = front-then _ _ _ _ _ _ _ low high in
-    (both, strip-lent (a .rects .now) (a .y1) (a .y2) _ _ _ (s .pre .0 .drawn) (low .count) both)
+    (both, strip-lent (a .rects .now) (a .y1) (a .y2) _ _ _ (s .pre .0 .layer) (low .count) both)
 
 pub strip-spec : {M : Type 1} → statement M
 strip-spec =

@@ -1,6 +1,4 @@
 -- `fill::free::is_near` meets its contract: each way out has the tests that decide. Assumes nothing.
-use Prim.Native.Nat.{_+_}
-use native.Mathlib.Omega.{arith}
 use borrow.Author.Needs.{needs}
 use borrow.Author.Tests.{lt-ltb, le-ltb}
 use Rattle.fill.proofs.free.is_near.Statement.{statement}
@@ -9,19 +7,11 @@ use Rattle.fill.proofs.free.is_near.Tie as tie
 returns : tie.Need-returns
 returns c = rw (le-ltb _ _ (c .if1 .taken))
 
-add-if2-2 : tie.Need-add-if2-2
-add-if2-2 c = let s = c .before .before .before .before in omega (arith, s .pre .1 .numbers (s .args .at + 3), s .pre .1 .narrow)
-
 returns-2 : tie.Need-returns-2
 returns-2 c = rw (lt-ltb _ _ (c .before .before .before .if1 .left), le-ltb _ _ (c .if2 .taken))
 
 returns-3 : tie.Need-returns-3
 returns-3 c = rw (lt-ltb _ _ (c .before .before .before .before .before .before .if1 .left), lt-ltb _ _ (c .before .before .before .if2 .left), le-ltb _ _ (c .if3 .taken))
-
-add-result-2 : tie.Need-add-result-2
-add-result-2 c =
-    let s = c .before .before .before .before .before .before .before .before .before .before in
-    omega (arith, s .pre .1 .numbers (s .args .at + 2), s .pre .1 .narrow)
 
 returns-4 : tie.Need-returns-4
 returns-4 c =
@@ -31,6 +21,5 @@ returns-4 c =
 pub is-near-spec : {M : Type 1} → statement M
 is-near-spec =
     tie.close
-    (tie.spec (λ c. search needs) (λ c. search needs) (λ c. search needs) (λ c. search needs) returns (λ c. search needs) (λ c. search needs)
-    (λ c. search needs) add-if2-2 returns-2 (λ c. search needs) (λ c. search needs) (λ c. search needs) returns-3 (λ c. search needs) (λ c. search needs)
-    (λ c. search needs) add-result-2 returns-4)
+    (tie.spec (λ c. search needs) (λ c. search needs) (λ c. search needs) returns (λ c. search needs) (λ c. search needs) (λ c. search needs) returns-2
+    (λ c. search needs) (λ c. search needs) returns-3 (λ c. search needs) (λ c. search needs) (λ c. search needs) returns-4)

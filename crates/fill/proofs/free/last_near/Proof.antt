@@ -1,4 +1,4 @@
--- `fill::free::last_near` meets its contract. The loop's invariant: the rectangles behind `end` that were looked at do not come near. The measure is
+-- `fill::free::last_near` meets its contract. The loop's invariant: the regions behind `end` that were looked at do not come near. The measure is
 -- what is left of the table. Assumes nothing.
 use Prim.Native.Nat.{_-_}
 use native.Mathlib.Omega.{arith}
@@ -9,10 +9,10 @@ use Rattle.fill.proofs.free.last_near.Statement.{statement}
 use Rattle.fill.proofs.free.last_near.Tie as tie
 
 abbrev Inv-loop : tie.InvT-loop
-Inv-loop rects gap at b end₀ i₀ end i = NearSoFar gap rects at b end i
+Inv-loop regions at b end₀ i₀ end i = NearSoFar regions at b end i
 
 abbrev μ-loop : tie.MeasureT-loop
-μ-loop rects gap at b end₀ i₀ end i = length rects - i
+μ-loop regions at b end₀ i₀ end i = length regions - i
 
 pub last-near-spec : {M : Type 1} → statement M
 last-near-spec =

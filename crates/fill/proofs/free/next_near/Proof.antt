@@ -1,4 +1,4 @@
--- `fill::free::next_near` meets its contract. The loop's invariant: the rectangles before the place miss the box. The measure is what is left of
+-- `fill::free::next_near` meets its contract. The loop's invariant: the regions before the place miss the box. The measure is what is left of
 -- the table. Assumes nothing.
 use Prim.Native.Nat.{_-_}
 use borrow.Author.Needs.{needs}
@@ -9,10 +9,10 @@ use Rattle.fill.proofs.free.next_near.Statement.{statement}
 use Rattle.fill.proofs.free.next_near.Tie as tie
 
 abbrev Inv-loop : tie.InvT-loop
-Inv-loop rects gap at b i₀ i = Skipped gap rects at b i
+Inv-loop regions at b i₀ i = Skipped regions at b i
 
 abbrev μ-loop : tie.MeasureT-loop
-μ-loop rects gap at b i₀ i = length rects - i
+μ-loop regions at b i₀ i = length regions - i
 
 loop-holds : tie.Need-loop-holds Inv-loop μ-loop
 loop-holds c = search skip-none

@@ -5,7 +5,7 @@ use borrow.Author.Needs.{needs}
 use denote.Ref.{now}
 use Rattle.jobfile.specs.Held.{amountsRoom}
 use Rattle.jobfile.proofs.Entering.{few-across}
-use Rattle.jobfile.proofs.Faulting.{shapes-held, tile-in-table, fill-column, fill-row, fill-taken, fill-over, fill-right}
+use Rattle.jobfile.proofs.Faulting.{tile-in-table, fill-column, fill-row, fill-taken, fill-over, fill-right}
 use Rattle.jobfile.proofs.faults.fill_fault.Statement.{statement}
 use Rattle.jobfile.proofs.faults.fill_fault.Tie as tie
 
@@ -13,29 +13,24 @@ tile-place-requires : tie.Need-tile-place-requires
 tile-place-requires c κs =
     let start = c .before .before .before .before .before .before in
     let tiles = c .before .before .tiles-across .ensures in
-    record { few = few-across (start .args .s .head) (start .pre .1 .agreement); column = omega arith; row = omega arith }
+    record { few = few-across (start .args .s .head) (start .pre .0 .head .agreement); column = omega arith; row = omega arith }
 
 -- the tile's place is in the table
 place : (c : tie.After-tile-place) → c .tile-place .result < amountsRoom
 place c =
     let tiles = c .before .before .before in
     let start = tiles .before .before .before .before in
-    tile-in-table (start .args .s) (now (start .args .rects)) (now (start .args .amounts)) _ _ _ _ (start .pre .0) (tiles .tiles-across .ensures)
-    (c .before .before .if1 .left) (c .before .if2 .left) (c .tile-place .ensures)
+    tile-in-table (start .args .s .head) (now (start .args .amounts)) _ _ _ _ (start .pre .1) (tiles .tiles-across .ensures) (c .before .before .if1 .left)
+    (c .before .if2 .left) (c .tile-place .ensures)
 
 shared-slice-read-if3 : tie.Need-shared-slice-read-if3
-shared-slice-read-if3 c = omega (arith, place (c .before), c .before .before .before .before .before .before .before .before .pre .0 .amounts-room)
+shared-slice-read-if3 c = omega (arith, place (c .before), c .before .before .before .before .before .before .before .before .pre .1 .room)
 
 tile-room-requires : tie.Need-tile-room-requires
 tile-room-requires c κs =
     let start = c .before .before .before .before .before .before .before .before .before in
     let tiles = c .before .before .before .before .before .tiles-across .ensures in
-    record {
-      shapes = shapes-held (start .args .s) (now (start .args .rects)) (now (start .args .amounts)) (start .pre .0);
-      head = start .pre .1;
-      tile = record { few = few-across (start .args .s .head) (start .pre .1 .agreement); column = omega arith; row = omega arith };
-      near = start .pre .0 .near;
-    }
+    (start .pre .0, record { few = few-across (start .args .s .head) (start .pre .0 .head .agreement); column = omega arith; row = omega arith })
 
 pub fill-fault-spec : {M : Type 1} → statement M
 fill-fault-spec =

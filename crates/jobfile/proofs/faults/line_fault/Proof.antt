@@ -11,5 +11,5 @@ line-fault-spec =
     tie.close
     (tie.spec (λ c κs. search needs) (λ c. search (line-unknown, not-true)) (λ c κs. search needs) (λ c. search (line-range, not-true, not-false))
     (λ c κs. search needs) (λ c. search (line-turn, not-true, not-false))
-    (λ c κs. (c .before .before .before .before .before .before .before .before .pre, sym (c .before .in-turn .ensures) ∙ not-false _ (c .if3 .left)))
+    (λ c κs. (c .before .before .before .before .before .before .before .before .before .pre, sym (c .before .in-turn .ensures) ∙ not-false _ (c .if3 .left)))
     (λ c. search (line-own, not-false)))

@@ -5,18 +5,18 @@ use borrow.Author.Needs.{needs}
 use denote.Ref.{now}
 use lib.ListN.{take}
 use lib.Seq.{length-take-le}
-use Rattle.geometry.specs.Layout.{rectsOf}
-use Rattle.fill.specs.Eligible.{tile, fillableArea}
+use Rattle.fill.specs.Eligible.{tile}
+use Rattle.fill.specs.Free.{freeFrom}
 use Rattle.jobfile.specs.Forms.{tileSide}
 use Rattle.jobfile.proofs.Rows.{tile-served}
-use Rattle.jobfile.proofs.Faulting.{tile-corners, tile-asked-small}
+use Rattle.jobfile.proofs.Faulting.{tile-corners, tile-small}
 use Rattle.jobfile.proofs.faults.tile_room.Statement.{statement}
 use Rattle.jobfile.proofs.faults.tile_room.Tie as tie
 
 tile-box-requires : tie.Need-tile-box-requires
 tile-box-requires c κs =
     let start = c .before .before .before in
-    tile-corners (start .args .s .head) _ _ _ (start .pre .head) (start .pre .tile) (c .tile-side .ensures)
+    tile-corners (start .args .s .head) _ _ _ (start .pre .0 .head) (start .pre .1) (c .tile-side .ensures)
 
 -- the box is the tile
 box : (c : tie.After-tile-box) →
@@ -31,19 +31,18 @@ fillable-requires c κs =
     let start = c .before .before .before .before .before .before in
     let s = start .args .s in
     let is = box (c .before .before) in (
-      tile-asked-small s (now (start .args .rects)) _ _ _ (start .pre) is,
-      tile-served (s .head) (take (4 * s .count) (now (start .args .rects))) (s .near) _ _ (4 * s .count) _ _ (start .pre .head) (start .pre .tile) (start .pre .near)
-          (sym (length-take-le _ _ (start .pre .shapes .within))) is (c .before .part-for .ensures),
+      tile-small (s .head) _ _ _ (start .pre .0 .head) (start .pre .1) is,
+      tile-served (s .head) (take (4 * s .count) (now (start .args .regions))) (s .near) _ _ (4 * s .count) _ _ (start .pre .0 .head) (start .pre .1)
+          (start .pre .0 .near) (sym (length-take-le _ _ (start .pre .0 .within))) is (c .before .part-for .ensures),
     )
 
 returns : tie.Need-returns
 returns c =
     let start = c .before .before .before .before .before .before .before in
-    c .fillable .ensures
-    ∙ ap (fillableArea (start .args .s .head .gap) (rectsOf (take (4 * start .args .s .count) (now (start .args .rects))))) (box (c .before .before .before))
+    c .fillable .ensures ∙ ap (freeFrom (take (4 * start .args .s .count) (now (start .args .regions))) 0) (box (c .before .before .before))
 
 pub tile-room-spec : {M : Type 1} → statement M
 tile-room-spec =
     tie.close
     (tie.spec (λ c. search needs) (λ c κs. search needs) tile-box-requires (λ c κs. search needs)
-    (λ c. sym (length-take-le _ _ (c .before .before .before .before .before .before .pre .shapes .within))) fillable-requires returns)
+    (λ c. sym (length-take-le _ _ (c .before .before .before .before .before .before .pre .0 .within))) fillable-requires returns)

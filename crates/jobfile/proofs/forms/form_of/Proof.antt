@@ -4,58 +4,34 @@ use denote.Ref.{now}
 use lib.Dec.{lit≤}
 use Rattle.spelling.specs.Text.{bytes}
 use Rattle.spelling.specs.Scanning.{places}
-use Rattle.jobfile.specs.Forms.{headPattern, rectPattern, fillPattern, endPattern}
-use Rattle.jobfile.proofs.Reading.{form-heading, form-shape, form-fill, form-end, form-unknown}
+use Rattle.jobfile.specs.Forms.{oneGapPattern, twoGapsPattern, oneGapForm, twoGapsForm, formOf}
+use Rattle.jobfile.proofs.Reading.{one-gap-by, two-gaps-by, first-read, second-read, neither-read}
 use Rattle.jobfile.proofs.forms.form_of.Statement.{statement}
 use Rattle.jobfile.proofs.forms.form_of.Tie as tie
 
 returns : tie.Need-returns
-unfolding bytes headPattern
-returns c =
-    let head = c .before .before .before in
-    form-heading (now (head .before .before .before .args .line)) _ (head .read-as .ensures) _ (c .before .before .if1 .taken) (c .heading-form .ensures)
+unfolding formOf bytes oneGapPattern
+returns c = first-read oneGapPattern twoGapsPattern oneGapForm twoGapsForm _ (now (c .before .before .before .before .before .before .args .line)) _ (c .before .before .before .read-as .ensures) one-gap-by _ (c .before .before .if1 .taken) (c .one-gap-form .ensures)
 
 returns-2 : tie.Need-returns-2
-unfolding bytes headPattern rectPattern
+unfolding formOf bytes oneGapPattern twoGapsPattern
 returns-2 c =
-    let rect = c .before .before .before in
-    let head = rect .before .before .before in
-    form-shape (now (head .before .before .before .args .line)) _ (head .read-as .ensures) (rect .before .before .if1 .left) _ (rect .read-as2 .ensures) _
-    (c .before .before .if2 .taken) (c .shape-form .ensures)
+    let second = c .before .before .before in
+    let first = second .before .before .before in
+    second-read oneGapPattern twoGapsPattern oneGapForm twoGapsForm _ (now (first .before .before .before .args .line)) _ (first .read-as .ensures) (second .before .before .if1 .left) _ (second .read-as2 .ensures) two-gaps-by _ (c .before .before .if2 .taken)
+    (c .two-gaps-form .ensures)
 
 returns-3 : tie.Need-returns-3
-unfolding bytes headPattern rectPattern fillPattern
+unfolding formOf bytes oneGapPattern twoGapsPattern
 returns-3 c =
-    let fill = c .before .before .before in
-    let rect = fill .before .before .before in
-    let head = rect .before .before .before in
-    form-fill (now (head .before .before .before .args .line)) _ (head .read-as .ensures) (rect .before .before .if1 .left) _ (rect .read-as2 .ensures)
-    (fill .before .before .if2 .left) _ (fill .read-as3 .ensures) _ (c .before .before .if3 .taken) (c .fill-form .ensures)
-
-returns-4 : tie.Need-returns-4
-unfolding bytes headPattern rectPattern fillPattern endPattern
-returns-4 c =
-    let last = c .before in
-    let fill = last .before .before .before in
-    let rect = fill .before .before .before in
-    let head = rect .before .before .before in
-    form-end (now (head .before .before .before .args .line)) _ (head .read-as .ensures) (rect .before .before .if1 .left) _ (rect .read-as2 .ensures)
-    (fill .before .before .if2 .left) _ (fill .read-as3 .ensures) (last .before .before .if3 .left) _ (last .read-as4 .ensures) (c .if4 .taken)
-
-returns-5 : tie.Need-returns-5
-unfolding bytes headPattern rectPattern fillPattern endPattern
-returns-5 c =
-    let last = c .before in
-    let fill = last .before .before .before in
-    let rect = fill .before .before .before in
-    let head = rect .before .before .before in
-    form-unknown (now (head .before .before .before .args .line)) _ (head .read-as .ensures) (rect .before .before .if1 .left) _ (rect .read-as2 .ensures)
-    (fill .before .before .if2 .left) _ (fill .read-as3 .ensures) (last .before .before .if3 .left) _ (last .read-as4 .ensures) (c .if4 .left)
+    let second = c .before .before in
+    let first = second .before .before .before in
+    neither-read oneGapPattern twoGapsPattern oneGapForm twoGapsForm _ (now (first .before .before .before .args .line)) _ (first .read-as .ensures) (second .before .before .if1 .left) _ (second .read-as2 .ensures) _ (c .before .if2 .left)
+    (c .body-form .ensures)
 
 pub form-of-spec : {M : Type 1} → statement M
 unfolding places
 form-of-spec =
     tie.close
     (tie.spec (λ c. search needs) (λ c κs. (lit≤ tt, lit≤ tt)) (λ c κs. search needs) returns (λ c. search needs) (λ c κs. (lit≤ tt, lit≤ tt))
-    (λ c κs. search needs) returns-2 (λ c. search needs) (λ c κs. (lit≤ tt, lit≤ tt)) (λ c κs. search needs) returns-3 (λ c. search needs)
-    (λ c κs. (lit≤ tt, lit≤ tt)) returns-4 returns-5)
+    (λ c κs. search needs) returns-2 (λ c κs. search needs) returns-3)

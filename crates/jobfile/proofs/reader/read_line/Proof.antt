@@ -13,7 +13,7 @@ pub read-line-spec : {M : Type 1} → statement M
 read-line-spec =
     tie.close
     (tie.spec (λ c κs. search needs)
-    (λ c. record { fits = omega (arith, c .before .first-line .ensures, line-within (now (c .before .before .before .before .before .args .rest))) })
-    (λ c. search read-unfed) (λ c. sym (length-take-le _ _ (omega arith))) (λ c κs. search needs) (λ c κs. search needs) (λ c. search needs)
-    (λ c. search needs) (λ c. search needs) (λ c. search read-faulty) (λ c κs. search needs) (λ c. search needs) (λ c. search needs)
-    (λ c. search needs) (λ c. search read-good))
+    (λ c. record { fits = omega (arith, c .before .first-line .ensures, line-within (now (c .before .before .before .before .before .before .args .rest))) })
+    (λ c. search read-unfed) (λ c. search needs) (λ c. sym (length-take-le _ _ (omega arith))) (λ c κs. search needs) (λ c κs. search needs)
+    (λ c. search needs) (λ c. search needs) (λ c. search needs) (λ c. search read-faulty) (λ c κs. search needs) (λ c. search needs)
+    (λ c. search needs) (λ c. search needs) (λ c. search read-good))

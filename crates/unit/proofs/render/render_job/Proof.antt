@@ -13,12 +13,12 @@ use Rattle.unit.proofs.Rooms.{told}
 use Rattle.unit.proofs.render.render_job.Statement.{statement}
 use Rattle.unit.proofs.render.render_job.Tie as tie
 
-array-share-prefix-rects : tie.Need-array-share-prefix-rects
-array-share-prefix-rects c = let r = c .before .before .before .before .before .before .pre .0 in omega (arith, r .shapes, r .room)
+array-share-prefix-shapes : tie.Need-array-share-prefix-shapes
+array-share-prefix-shapes c = let r = c .before .before .before .before .before .before .pre .0 in omega (arith, r .shapes, r .room)
 
 slice-aggregate-run : tie.Need-slice-aggregate-run
 slice-aggregate-run c =
-    let s = c .before .before .before .before .before .before .before in sym (length-take-le (4 * s .args .job .count) (s .args .job .rects) (omega (arith, s .pre .0 .shapes, s .pre .0 .room)))
+    let s = c .before .before .before .before .before .before .before in sym (length-take-le (4 * s .args .job .count) (s .args .job .shapes) (omega (arith, s .pre .0 .shapes, s .pre .0 .room)))
 
 array-share-prefix-amounts : tie.Need-array-share-prefix-amounts
 array-share-prefix-amounts c =
@@ -48,4 +48,4 @@ returns c =
 pub render-job-spec : {M : Type 1} → statement M
 render-job-spec =
     tie.close
-    (tie.spec (λ c. omega (arith, c .before .before .before .before .before .pre .0 .shapes)) (λ c κs. search needs) array-share-prefix-rects slice-aggregate-run array-share-prefix-amounts slice-aggregate-run-2 run-requires (λ c κs. search needs) (λ c. search needs) returns)
+    (tie.spec (λ c. omega (arith, c .before .before .before .before .before .pre .0 .shapes)) (λ c κs. search needs) array-share-prefix-shapes slice-aggregate-run array-share-prefix-amounts slice-aggregate-run-2 run-requires (λ c κs. search needs) (λ c. search needs) returns)

@@ -22,7 +22,7 @@ counts-of-requires c κs =
     let s = c .before .before .before .before .before .before .before .before in
     let exact = c .before .before .before .before .exact-run in
     let greatest = c .before .quick-run in (
-      s .pre .0 .drawn,
+      s .pre .0 .layer,
       spots-small (s .args .head) (s .args .rects .now) (s .args .amounts .now) (s .pre .0) (exact .result) (greatest .result) (c .quick-run2 .result) (exact .ensures) (greatest .ensures) (c .quick-run2 .ensures),
     )
 

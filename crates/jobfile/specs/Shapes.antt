@@ -1,0 +1,43 @@
+-- Document 02, request 5: shapes are drawn metal or dummies from an earlier pass, and fill keeps a gap of its own from each kind. A `Shape`, of
+-- src/lib.rt, is a rectangle with its kind; a `Gap` is what the head says, (gap B) or (gap B D).
+use Prim.Native.Nat.{ℕ}
+use mathlib.Core.List.{List, map}
+use Rattle.geometry.specs.declared.Rect.{Rect}
+use Rattle.fill.specs.declared.Keepout.{Keepout}
+use Rattle.jobfile.specs.declared.Gap.{Gap}
+use Rattle.jobfile.specs.declared.Gap.the-variants.{Both, Each}
+use Rattle.jobfile.specs.declared.Head.{Head}
+use Rattle.jobfile.specs.declared.Kind.{Kind}
+use Rattle.jobfile.specs.declared.Kind.the-variants.{Drawn, Dummy}
+use Rattle.jobfile.specs.declared.Shape.{Shape}
+
+-- the least gap between fill and a shape: B for drawn metal, D for a dummy; (gap B) means D = B
+abbrev pub gapFor : Gap → Kind → ℕ
+gapFor (Both b) kind = b
+gapFor (Each b d) Drawn = b
+gapFor (Each b d) Dummy = d
+
+-- a head that says something else of gaps
+abbrev pub withGap : Head → Gap → Head
+withGap h g =
+    record {
+      size = h .size;
+      window = h .window;
+      cut = h .cut;
+      gap = g;
+      lower = h .lower;
+      upper = h .upper;
+      accuracy = h .accuracy;
+      levels = h .levels;
+    }
+
+-- the rectangles of shapes of either kind: what areas, the shapes under a window and faults 8 and 9 go by
+abbrev pub rectangles : List Shape → List Rect
+rectangles ss = map (λ s. s .rect) ss
+
+-- a shape as fill sees it, with the gap of its kind; and all shapes
+abbrev pub keepoutOf : Gap → Shape → Keepout
+keepoutOf g s = record { rect = s .rect; gap = gapFor g (s .kind) }
+
+abbrev pub keepouts : Gap → List Shape → List Keepout
+keepouts g ss = map (keepoutOf g) ss
