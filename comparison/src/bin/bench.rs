@@ -129,15 +129,15 @@ impl Times {
     }
 }
 
-/// The drawn cover, which serves all phases behind the reader, counts with the
+/// The cover, which serves all phases behind the reader, counts with the
 /// exact run.
 fn second_times(file: &[u8], unfilled_file: &[u8], job: &Job) -> Times {
-    let cover = fast::drawn_cover(job);
+    let cover = fast::metal_cover(job);
     let extremes = fast::exact_run(job, &cover);
     let quick = |sense| least_time(|| fast::quick_run(job, &cover, sense, &extremes));
     let unfilled = least_time(|| fast::read(unfilled_file));
     let reading = least_time(|| fast::read(file));
-    let exact = least_time(|| fast::exact_run(job, &fast::drawn_cover(job)));
+    let exact = least_time(|| fast::exact_run(job, &fast::metal_cover(job)));
     Times {
         unfilled: above_noise(unfilled),
         fills: difference(reading, unfilled),
