@@ -1,12 +1,12 @@
 //! The exact run as two plain Rust loops, to measure the proved run by.
 //!
 //! Both try the positions that the proved run tries and add anew at each of
-//! them: one the rectangles of the window's strip, the other all of the job.
+//! them: one the shapes of the window's strip, the other all of the job.
 
 use reference::job::Job;
 use reference::sense::Sense;
 
-/// Low and high side of a rectangle or a window on one axis.
+/// Low and high side of a shape or a window on one axis.
 type Sides = [u64; 2];
 
 /// The greatest and the least area, summed over the strip at each position.
@@ -14,12 +14,11 @@ pub fn summing_strips(job: &Job) -> [u64; 2] {
     extremes(job, Strip::area)
 }
 
-/// The greatest and the least area, summed over all rectangles at each position.
+/// The greatest and the least area, summed over all shapes at each position.
 pub fn summing_all(job: &Job) -> [u64; 2] {
     extremes(job, |strip, columns| {
-        let rects = job.rects.iter();
-        rects
-            .map(|&[x1, y1, x2, y2]| common([x1, x2], columns) * common([y1, y2], strip.rows))
+        job.boxes()
+            .map(|[x1, y1, x2, y2]| common([x1, x2], columns) * common([y1, y2], strip.rows))
             .sum()
     })
 }
@@ -28,7 +27,7 @@ pub fn summing_all(job: &Job) -> [u64; 2] {
 /// columns.
 fn extremes(job: &Job, area: impl Fn(&Strip, Sides) -> u64) -> [u64; 2] {
     Sense::BOTH.map(|sense| {
-        let rows = job.rects.iter().map(|&[_, y1, _, y2]| [y1, y2]);
+        let rows = job.boxes().map(|[_, y1, _, y2]| [y1, y2]);
         let mut best = sense.worst();
         for y in candidates(job, sense, rows) {
             let strip = Strip::new(job, y);
@@ -62,14 +61,14 @@ fn candidates(job: &Job, sense: Sense, sides: impl Iterator<Item = Sides>) -> Ve
     positions
 }
 
-/// The rectangles that meet a window's rows. No other has a side where the area
+/// The shapes that meet a window's rows. No other has a side where the area
 /// of a window in these rows bends, so they alone give its columns.
 struct Strip {
     rows: Sides,
     parts: Vec<Part>,
 }
 
-/// What a strip has of a rectangle.
+/// What a strip has of a shape.
 struct Part {
     columns: Sides,
     height: u64,
@@ -78,11 +77,11 @@ struct Part {
 impl Strip {
     fn new(job: &Job, y: u64) -> Strip {
         let rows = [y, y + job.window];
-        let part = |&[x1, y1, x2, y2]: &[u64; 4]| Part {
+        let part = |[x1, y1, x2, y2]: [u64; 4]| Part {
             columns: [x1, x2],
             height: common([y1, y2], rows),
         };
-        let parts = job.rects.iter().map(part);
+        let parts = job.boxes().map(part);
         Strip {
             rows,
             parts: parts.filter(|part| part.height > 0).collect(),
@@ -112,7 +111,7 @@ mod tests {
     /// Holds both loops and the proved run to the second implementation.
     fn compare_runs(file: &[u8]) {
         let job = fast::read(file).expect("generated jobs are valid");
-        let exact = fast::exact_run(&job, &fast::drawn_cover(&job));
+        let exact = fast::exact_run(&job, &fast::metal_cover(&job));
         let areas = [exact.max.area, exact.min.area];
         let shown = String::from_utf8_lossy(file);
         assert_eq!(summing_strips(&job), areas, "{shown}");

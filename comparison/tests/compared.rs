@@ -3,11 +3,12 @@
 use comparison::{compare, on_large_stack};
 use reference::generate::{
     boundary_jobs, damaged_job, faulty_job, large_job, large_jobs, mixed_job, small_job, Random,
-    COMPARED_SEEDS,
+    COMPARED_DAMAGED_SEEDS, COMPARED_FAULTY_SEEDS, COMPARED_LARGE_SEEDS, COMPARED_SEEDS,
 };
 use std::ops::Range;
 
-/// Compares one job for each of consecutive seeds.
+/// Compares one job for each of consecutive seeds. The second implementation's
+/// tests count what the jobs of the seeds that have a name reach.
 fn compare_seeds(seeds: Range<u64>, make: fn(&mut Random) -> Vec<u8>) {
     println!("seeds {seeds:?}");
     on_large_stack(move || {
@@ -17,7 +18,6 @@ fn compare_seeds(seeds: Range<u64>, make: fn(&mut Random) -> Vec<u8>) {
     });
 }
 
-/// The second implementation's tests count what these jobs reach.
 #[test]
 fn valid_jobs() {
     compare_seeds(COMPARED_SEEDS, small_job);
@@ -25,12 +25,12 @@ fn valid_jobs() {
 
 #[test]
 fn faulty_jobs() {
-    compare_seeds(2_000_000..2_005_000, faulty_job);
+    compare_seeds(COMPARED_FAULTY_SEEDS, faulty_job);
 }
 
 #[test]
 fn damaged_jobs() {
-    compare_seeds(3_000_000..3_005_000, damaged_job);
+    compare_seeds(COMPARED_DAMAGED_SEEDS, damaged_job);
 }
 
 #[test]
@@ -40,7 +40,7 @@ fn mixed_jobs() {
 
 #[test]
 fn large_random_jobs() {
-    compare_seeds(5_000_000..5_000_030, large_job);
+    compare_seeds(COMPARED_LARGE_SEEDS, large_job);
 }
 
 #[test]

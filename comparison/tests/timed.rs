@@ -1,4 +1,4 @@
-//! The proved exact run beside a loop that sums all rectangles at each position,
+//! The proved exact run beside a loop that sums all shapes at each position,
 //! by their times. A file of its own, so that no other test runs beside it.
 
 use comparison::timing::in_turn;
@@ -10,15 +10,15 @@ use std::collections::HashSet;
 
 const ROUNDS: usize = 9;
 
-/// In the first a strip holds some of the rectangles, so that summing strips
+/// In the first a strip holds some of the shapes, so that summing strips
 /// would save time too; in the second nearly every strip holds them all, and
 /// nothing is saved but by carrying the sum along.
 const JOBS: [&str; 2] = ["different sides", "most starts"];
 
-/// How many lines across an axis have a side of a rectangle on them.
+/// How many lines across an axis have a side of a shape on them.
 fn lines_with_sides(job: &Job, axis: usize) -> usize {
-    let rects = job.rects.iter();
-    let sides: HashSet<u64> = rects.flat_map(|r| [r[axis], r[axis + 2]]).collect();
+    let boxes = job.boxes();
+    let sides: HashSet<u64> = boxes.flat_map(|b| [b[axis], b[axis + 2]]).collect();
     sides.len()
 }
 
@@ -27,9 +27,9 @@ fn lines_with_sides(job: &Job, axis: usize) -> usize {
 fn assert_half_the_time(large: &LargeJob) {
     let (name, file) = (large.name, large.without_fills());
     let job = fast::read(&file).expect("large jobs are valid");
-    assert_eq!(job.rects.len(), 256, "{name}");
+    assert_eq!(job.shapes.len(), 256, "{name}");
     for axis in [0, 1] {
-        assert_eq!(lines_with_sides(&job, axis), 2 * job.rects.len(), "{name}");
+        assert_eq!(lines_with_sides(&job, axis), 2 * job.shapes.len(), "{name}");
     }
     let phase = |number| LINKED.phase(&file, number);
     let [greatest, _] = plain::summing_all(&job);

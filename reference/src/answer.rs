@@ -51,7 +51,7 @@ impl Method {
                 shown(job, exact, quick, brute::verdict(job, &grid), shapes)
             }
             Method::Fast => {
-                let cover = fast::drawn_cover(job);
+                let cover = fast::metal_cover(job);
                 let exact = fast::exact_run(job, &cover);
                 let quick = Sense::BOTH.map(|sense| fast::quick_run(job, &cover, sense, &exact));
                 let shapes = |corners| fast::shapes(job, corners);

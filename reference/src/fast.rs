@@ -1,7 +1,7 @@
 //! The same answers for every legal job, in little time.
 
 use crate::cover::{Cover, Span, Strip};
-use crate::job::{self, overlap, Job, Refusal};
+use crate::job::{self, overlap, Job, Refusal, Shape};
 use crate::outcome::{End, Exact, Failure, Quick, Side, Verdict, Window};
 use crate::sense::Sense;
 use std::ops::Range;
@@ -11,29 +11,31 @@ pub fn read(bytes: &[u8]) -> Result<Job, Refusal> {
     job::read_with(bytes, fillable_areas)
 }
 
-/// The drawn metal of a job, ready for area questions.
-pub fn drawn_cover(job: &Job) -> Cover {
-    Cover::new(job.size, &job.rects)
+/// The metal of a job, drawn and dummy, ready for area questions.
+pub fn metal_cover(job: &Job) -> Cover {
+    let boxes: Vec<[u64; 4]> = job.boxes().collect();
+    Cover::new(job.size, &boxes)
 }
 
-/// How many rectangles share a unit square with the box X1 Y1 X2 Y2, which is
-/// not empty.
+/// How many shapes share a unit square with the box X1 Y1 X2 Y2, which is not
+/// empty.
 pub fn shapes(job: &Job, corners: [u64; 4]) -> u64 {
-    let sharing = job.rects.iter().filter(|rect| overlap(rect, &corners));
+    let sharing = job.boxes().filter(|shape| overlap(shape, &corners));
     sharing.count() as u64
 }
 
 /// Fillable area of each tile, row by row.
 ///
-/// A rectangle bars fill from itself and from all squares nearer than the gap
-/// on both axes: together, from itself widened by the gap on all four sides.
+/// A shape bars fill from itself and from all squares nearer than its gap on
+/// both axes: together, from itself widened by the gap on all four sides.
 pub fn fillable_areas(job: &Job) -> Vec<u64> {
-    let barred = |&[x1, y1, x2, y2]: &[u64; 4]| {
-        let before = |side: u64| side.saturating_sub(job.gap);
-        let after = |side: u64| (side + job.gap).min(job.size);
+    let barred = |shape: &Shape| {
+        let ([x1, y1, x2, y2], gap) = (shape.corners, job.gap_to(shape.kind));
+        let before = |side: u64| side.saturating_sub(gap);
+        let after = |side: u64| (side + gap).min(job.size);
         [before(x1), before(y1), after(x2), after(y2)]
     };
-    let boxes: Vec<[u64; 4]> = job.rects.iter().map(barred).collect();
+    let boxes: Vec<[u64; 4]> = job.shapes.iter().map(barred).collect();
     let side = job.tile_side();
     Cover::new(job.size, &boxes)
         .tile_areas(side, job.tiles())

@@ -7,6 +7,7 @@
 mod boundary;
 mod damage;
 mod faulty;
+mod kinds;
 mod large;
 mod line;
 mod random;
@@ -25,6 +26,12 @@ use std::ops::Range;
 /// The seeds of the small jobs on which implementations are compared. Named
 /// here, so that a test can count what these very jobs reach.
 pub const COMPARED_SEEDS: Range<u64> = 1_000_000..1_009_000;
+/// Those of the faulty jobs.
+pub const COMPARED_FAULTY_SEEDS: Range<u64> = 2_000_000..2_005_000;
+/// Those of the damaged jobs.
+pub const COMPARED_DAMAGED_SEEDS: Range<u64> = 3_000_000..3_005_000;
+/// Those of the large random jobs.
+pub const COMPARED_LARGE_SEEDS: Range<u64> = 5_000_000..5_000_030;
 
 /// Any small job: half of them valid, the others faulty or damaged.
 pub fn mixed_job(random: &mut Random) -> Vec<u8> {

@@ -2,8 +2,8 @@
 
 /// Most bytes a job file may have.
 pub(crate) const LARGEST_FILE: usize = 60_000;
-/// Most rectangles a job may have.
-pub(crate) const MOST_RECTS: usize = 256;
+/// Most shapes a job may have, drawn ones and dummies together.
+pub(crate) const MOST_SHAPES: usize = 256;
 /// Most tiles along one side of the layout.
 pub(crate) const MOST_TILES: u64 = 64;
 /// Longest side of a layout.
@@ -16,22 +16,39 @@ const MOST_HALVINGS: u64 = 4;
 pub(crate) type Ranges<const K: usize> = [(u64, u64); K];
 
 const SIDE: (u64, u64) = (1, LARGEST_SIDE);
+/// Of the gap to drawn metal and of that to dummies.
+pub(crate) const GAP: (u64, u64) = (0, LARGEST_SIDE);
 const CORNER: (u64, u64) = (0, LARGEST_SIDE);
 const BOUND: (u64, u64) = (0, 10_000);
 const TILE: (u64, u64) = (0, MOST_TILES - 1);
 
-pub(crate) const HEAD_RANGES: Ranges<8> = [
-    SIDE,
-    SIDE,
-    (1, 64),
-    (0, LARGEST_SIDE),
-    BOUND,
-    BOUND,
-    (0, 1000),
-    (1, 6),
-];
-pub(crate) const RECT_RANGES: Ranges<4> = [CORNER; 4];
+/// Of a head's numbers but the dummy gap, which it need not state.
+pub(crate) const HEAD_RANGES: Ranges<8> =
+    [SIDE, SIDE, (1, 64), GAP, BOUND, BOUND, (0, 1000), (1, 6)];
+pub(crate) const CORNER_RANGES: Ranges<4> = [CORNER; 4];
 pub(crate) const FILL_RANGES: Ranges<3> = [TILE, TILE, (1, LARGEST_SIDE * LARGEST_SIDE)];
+
+/// Where the metal of a shape comes from. Only the gap that fill leaves to it
+/// depends on that.
+#[derive(Clone, Copy, Debug, PartialEq, Eq)]
+pub enum Kind {
+    /// Drawn with the layout.
+    Drawn,
+    /// Left by an earlier fill pass.
+    Dummy,
+}
+
+impl Kind {
+    pub const BOTH: [Kind; 2] = [Kind::Drawn, Kind::Dummy];
+}
+
+/// A rectangle of metal.
+#[derive(Clone, Copy, Debug, PartialEq, Eq)]
+pub struct Shape {
+    pub kind: Kind,
+    /// X1 Y1 X2 Y2.
+    pub corners: [u64; 4],
+}
 
 /// A job that was read without a fault.
 #[derive(Clone, Debug, Default)]
@@ -44,6 +61,8 @@ pub struct Job {
     pub cut: u64,
     /// Least gap between fill and drawn metal.
     pub gap: u64,
+    /// Least gap between fill and dummies.
+    pub dummy_gap: u64,
     /// Lower density bound in ten-thousandths.
     pub lower: u64,
     /// Upper density bound in ten-thousandths.
@@ -52,13 +71,26 @@ pub struct Job {
     pub accuracy: u64,
     /// Levels each quick run may do.
     pub levels: u64,
-    /// Corners X1 Y1 X2 Y2 of each rectangle, in file order.
-    pub rects: Vec<[u64; 4]>,
+    /// The metal, in file order.
+    pub shapes: Vec<Shape>,
     /// Fill amount of each tile, row by row; 0 where none is given.
     pub fills: Vec<u64>,
 }
 
 impl Job {
+    /// Corners of each shape, for whatever takes all metal alike.
+    pub fn boxes(&self) -> impl Iterator<Item = [u64; 4]> + '_ {
+        self.shapes.iter().map(|shape| shape.corners)
+    }
+
+    /// Least gap between fill and a shape of this kind.
+    pub(crate) fn gap_to(&self, kind: Kind) -> u64 {
+        match kind {
+            Kind::Drawn => self.gap,
+            Kind::Dummy => self.dummy_gap,
+        }
+    }
+
     /// Side of a tile.
     pub fn tile_side(&self) -> u64 {
         self.window / self.cut
@@ -99,13 +131,15 @@ impl Job {
         10_000 * sum >= self.lower * self.window * self.window
     }
 
-    fn from_head(head: [u64; 8]) -> Job {
+    /// A head that states no dummy gap means the one it states for both.
+    fn from_head(head: [u64; 8], dummy_gap: Option<u64>) -> Job {
         let [size, window, cut, gap, lower, upper, accuracy, levels] = head;
         Job {
             size,
             window,
             cut,
             gap,
+            dummy_gap: dummy_gap.unwrap_or(gap),
             lower,
             upper,
             accuracy,
@@ -132,7 +166,7 @@ pub(crate) enum Fault {
     Head = 5,
     Corners = 6,
     NoSuchTile = 7,
-    TooManyRects = 8,
+    TooManyShapes = 8,
     Overlap = 9,
     FilledTwice = 10,
     TooMuchFill = 11,
@@ -157,7 +191,7 @@ impl Refusal {
 }
 
 /// Reads a job file. `fillable_areas` gives the fillable area of every tile,
-/// row by row, of a job whose rectangles are complete.
+/// row by row, of a job whose shapes are complete.
 pub(crate) fn read_with(
     bytes: &[u8],
     fillable_areas: impl Fn(&Job) -> Vec<u64>,
@@ -184,12 +218,12 @@ pub(crate) fn read_with(
     }
 }
 
-/// What may come next: the head; rectangles and all after them; fills and the
+/// What may come next: the head; shapes and all after them; fills and the
 /// end; nothing.
 #[derive(Clone, Copy, PartialEq, Eq)]
 enum Stage {
     Head,
-    Rects,
+    Shapes,
     Fills,
     Ended,
 }
@@ -211,8 +245,8 @@ impl<A: Fn(&Job) -> Vec<u64>> Reader<A> {
         refuse_if(!form.is_in_range(), Fault::Range)?;
         refuse_if(!form.is_in_turn(self.stage), Fault::Turn)?;
         match form {
-            Form::Head(head) => self.take_head(head),
-            Form::Rect(rect) => self.take_rect(rect),
+            Form::Head(head, dummy_gap) => self.take_head(Job::from_head(head, dummy_gap)),
+            Form::Shape(shape) => self.take_shape(shape),
             Form::Fill(fill) => self.take_fill(fill),
             Form::End => {
                 self.stage = Stage::Ended;
@@ -221,24 +255,24 @@ impl<A: Fn(&Job) -> Vec<u64>> Reader<A> {
         }
     }
 
-    fn take_head(&mut self, head: [u64; 8]) -> Result<(), Fault> {
-        let mut job = Job::from_head(head);
+    /// Takes a job that has its head's numbers alone.
+    fn take_head(&mut self, mut job: Job) -> Result<(), Fault> {
         refuse_if(!job.head_agrees(), Fault::Head)?;
         job.fills = vec![0; (job.tiles() * job.tiles()) as usize];
         self.job = job;
-        self.stage = Stage::Rects;
+        self.stage = Stage::Shapes;
         Ok(())
     }
 
-    fn take_rect(&mut self, rect: [u64; 4]) -> Result<(), Fault> {
-        let [x1, y1, x2, y2] = rect;
+    fn take_shape(&mut self, shape: Shape) -> Result<(), Fault> {
+        let [x1, y1, x2, y2] = shape.corners;
         let size = self.job.size;
         let bad_corners = x1 >= x2 || y1 >= y2 || x2 > size || y2 > size;
         refuse_if(bad_corners, Fault::Corners)?;
-        let standing = &mut self.job.rects;
-        refuse_if(standing.len() == MOST_RECTS, Fault::TooManyRects)?;
-        refuse_if(standing.iter().any(|s| overlap(s, &rect)), Fault::Overlap)?;
-        standing.push(rect);
+        refuse_if(self.job.shapes.len() == MOST_SHAPES, Fault::TooManyShapes)?;
+        let overlaps = |standing: [u64; 4]| overlap(&standing, &shape.corners);
+        refuse_if(self.job.boxes().any(overlaps), Fault::Overlap)?;
+        self.job.shapes.push(shape);
         Ok(())
     }
 
@@ -272,26 +306,49 @@ pub(crate) fn overlap(a: &[u64; 4], b: &[u64; 4]) -> bool {
 
 /// A line as spelled, its numbers not yet judged.
 enum Form {
-    Head([u64; 8]),
-    Rect([u64; 4]),
+    /// All numbers but the dummy gap, and that one if it is stated.
+    Head([u64; 8], Option<u64>),
+    Shape(Shape),
     Fill([u64; 3]),
     End,
 }
 
 impl Form {
     fn spelled(text: &[u8]) -> Option<Form> {
-        const HEAD: &[u8] = b"(job (size #) (window #) (cut #) (gap #) (bounds # #) (zoom # #))";
-        numbers(text, HEAD)
-            .map(Form::Head)
-            .or_else(|| numbers(text, b"(rect # # # #)").map(Form::Rect))
+        Form::spelled_head(text)
+            .or_else(|| Form::spelled_shape(text))
             .or_else(|| numbers(text, b"(fill # # #)").map(Form::Fill))
             .or_else(|| numbers(text, b"(end)").map(|[]| Form::End))
     }
 
+    fn spelled_head(text: &[u8]) -> Option<Form> {
+        const ONE_GAP: &[u8] = b"(job (size #) (window #) (cut #) (gap #) (bounds # #) (zoom # #))";
+        const BOTH_GAPS: &[u8] =
+            b"(job (size #) (window #) (cut #) (gap # #) (bounds # #) (zoom # #))";
+        let with_both_gaps = |[n, w, r, b, d, l, u, e, v]: [u64; 9]| {
+            let others = [n, w, r, b, l, u, e, v];
+            Form::Head(others, Some(d))
+        };
+        numbers(text, ONE_GAP)
+            .map(|head| Form::Head(head, None))
+            .or_else(|| numbers(text, BOTH_GAPS).map(with_both_gaps))
+    }
+
+    fn spelled_shape(text: &[u8]) -> Option<Form> {
+        let spelled = |spelling: &[u8], kind| {
+            let shape = |corners| Form::Shape(Shape { kind, corners });
+            numbers(text, spelling).map(shape)
+        };
+        spelled(b"(rect # # # #)", Kind::Drawn).or_else(|| spelled(b"(dummy # # # #)", Kind::Dummy))
+    }
+
     fn is_in_range(&self) -> bool {
         match self {
-            Form::Head(head) => in_ranges(head, &HEAD_RANGES),
-            Form::Rect(rect) => in_ranges(rect, &RECT_RANGES),
+            Form::Head(head, dummy_gap) => {
+                let gap_in_range = |gap| in_ranges(&[gap], &[GAP]);
+                in_ranges(head, &HEAD_RANGES) && dummy_gap.is_none_or(gap_in_range)
+            }
+            Form::Shape(shape) => in_ranges(&shape.corners, &CORNER_RANGES),
             Form::Fill(fill) => in_ranges(fill, &FILL_RANGES),
             Form::End => true,
         }
@@ -299,9 +356,9 @@ impl Form {
 
     fn is_in_turn(&self, stage: Stage) -> bool {
         match self {
-            Form::Head(_) => stage == Stage::Head,
-            Form::Rect(_) => stage == Stage::Rects,
-            Form::Fill(_) | Form::End => matches!(stage, Stage::Rects | Stage::Fills),
+            Form::Head(..) => stage == Stage::Head,
+            Form::Shape(_) => stage == Stage::Shapes,
+            Form::Fill(_) | Form::End => matches!(stage, Stage::Shapes | Stage::Fills),
         }
     }
 }

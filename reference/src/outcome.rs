@@ -31,7 +31,7 @@ impl Window {
 #[derive(Clone, Copy, Debug, PartialEq, Eq)]
 pub struct Shown {
     pub window: Window,
-    /// How many drawn rectangles share a unit square with the window.
+    /// How many shapes share a unit square with the window.
     pub shapes: u64,
 }
 

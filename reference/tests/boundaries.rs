@@ -5,7 +5,7 @@ mod common;
 use common::printed_by_both;
 use reference::answer::{answer, answer_by, printed, Method, Reply, ANSWER_ROOM};
 use reference::generate::{boundary_jobs, large_job, large_jobs, Random};
-use reference::job::{Job, Refusal};
+use reference::job::{Job, Kind, Refusal};
 use reference::outcome::{End, Exact, Failure, Outcome, Quick, Shown, Side, Verdict, Window};
 use reference::sense::Sense;
 use reference::{brute, fast};
@@ -40,13 +40,15 @@ fn boundary_job(name: &str) -> Vec<u8> {
 
 #[test]
 fn as_many_shapes_under_a_window_as_may_stand() {
-    let job = boundary_job("256 rectangles under one window");
     let expected = "(exact (max 256 0 0 256) (min 256 0 0 256))\n\
                     (zoom met (levels 1) (floor 256 0 0 256) (ceiling 256) (kept 0))\n\
                     (zoommin exact (levels 6) (low 256) (high 256 0 0 256) (kept 0))\n\
                     (density 10000)\n\
                     (fill safe)\n";
-    assert_eq!(printed_by_both(&job), expected);
+    for mixture in ["drawn", "dummies", "mixed"] {
+        let job = boundary_job(&format!("256 shapes under one window, {mixture}"));
+        assert_eq!(printed_by_both(&job), expected, "{mixture}");
+    }
 }
 
 #[test]
@@ -196,38 +198,64 @@ fn large_jobs_are_accepted() {
     }
 }
 
+/// One of the heaviest jobs, by its name.
+fn heaviest_job(name: &str) -> Job {
+    let large = large_jobs().into_iter().find(|large| large.name == name);
+    fast::read(&large.unwrap().job).unwrap()
+}
+
+fn filled(job: &Job) -> usize {
+    job.fills.iter().filter(|&&amount| amount > 0).count()
+}
+
 #[test]
 fn heaviest_jobs_are_as_heavy_as_can_be() {
-    let jobs = large_jobs();
-    let read = |name: &str| {
-        let large = jobs.iter().find(|large| large.name == name).unwrap();
-        fast::read(&large.job).unwrap()
-    };
-    let filled = |job: &Job| job.fills.iter().filter(|&&amount| amount > 0).count();
+    let read = heaviest_job;
     let sides = read("different sides");
-    assert_eq!((sides.size, sides.rects.len()), (65_535, 256));
+    assert_eq!((sides.size, sides.shapes.len()), (65_535, 256));
     let starts = read("most starts");
     assert_eq!((starts.tiles(), starts.window % 16), (64, 0));
     let wide = read("wide windows");
     assert_eq!(4 * wide.window, wide.size);
     for job in [&sides, &starts, &wide] {
-        let cover = fast::drawn_cover(job);
+        let cover = fast::metal_cover(job);
         assert!(cover.column_cuts().len() >= 512 && cover.row_cuts().len() >= 512);
     }
     let tiles = read("most tiles");
     assert_eq!(tiles.fills.len(), 4096);
     assert!(filled(&tiles) > 3800);
     let both = read("bars and fills");
-    assert_eq!((both.rects.len(), both.tiles()), (256, 64));
+    assert_eq!((both.shapes.len(), both.tiles()), (256, 64));
     assert!(filled(&both) > 3500);
     assert_eq!(Method::Fast.outcome(&both).verdict, Verdict::Safe);
+}
+
+/// Both gaps have a hand in what their tiles can take.
+#[test]
+fn heaviest_jobs_with_dummies_have_many_of_both_kinds() {
+    for (name, enough) in [("bars and dummies", 3500), ("gaps that differ", 2500)] {
+        let job = heaviest_job(name);
+        let of_kind = |kind| job.shapes.iter().filter(|shape| shape.kind == kind).count();
+        assert_eq!(Kind::BOTH.map(of_kind), [170, 86], "{name}");
+        assert!(filled(&job) > enough, "{name}: {}", filled(&job));
+        let fillable = fast::fillable_areas(&job);
+        for one_gap in [job.gap, job.dummy_gap] {
+            let alike = Job {
+                gap: one_gap,
+                dummy_gap: one_gap,
+                ..job.clone()
+            };
+            assert_ne!(fillable, fast::fillable_areas(&alike), "{name}");
+        }
+    }
+    let bars = heaviest_job("bars and dummies");
+    assert_eq!(Method::Fast.outcome(&bars).verdict, Verdict::Safe);
 }
 
 #[test]
 fn quick_runs_of_the_heaviest_jobs() {
     let runs = |name: &str, levels: u64| {
-        let large = large_jobs().into_iter().find(|large| large.name == name);
-        let job = fast::read(&large.unwrap().job).unwrap();
+        let job = heaviest_job(name);
         let Outcome {
             greatest, least, ..
         } = Method::Fast.outcome(&Job { levels, ..job });

@@ -1,55 +1,16 @@
 //! Whether the generated jobs reach every kind of answer and refusal.
 
+mod counts;
+
+use counts::{verdict_name, Counts};
 use reference::answer::{answer, Method, Reply, ANSWER_ROOM};
 use reference::fast;
 use reference::generate::{
     boundary_jobs, job_with_fault, mixed_job, small_job, Random, COMPARED_SEEDS, SPOILABLE,
 };
 use reference::job::Job;
-use reference::outcome::{End, Exact, Outcome, Quick, Shown, Side, Verdict};
+use reference::outcome::{End, Exact, Outcome, Quick, Shown};
 use reference::sense::Sense;
-use std::collections::BTreeMap;
-
-/// How often each thing was seen.
-#[derive(Default)]
-struct Counts(BTreeMap<String, u64>);
-
-impl Counts {
-    fn see(&mut self, what: impl Into<String>) {
-        *self.0.entry(what.into()).or_default() += 1;
-    }
-
-    fn see_if(&mut self, seen: bool, what: &str) {
-        if seen {
-            self.see(what);
-        }
-    }
-
-    fn seen(&self, what: &str) -> u64 {
-        self.0.get(what).copied().unwrap_or(0)
-    }
-
-    fn require(&self, least: u64, wanted: impl IntoIterator<Item = String>) {
-        let missing: Vec<String> = wanted
-            .into_iter()
-            .filter(|what| self.seen(what) < least)
-            .collect();
-        println!("{:#?}", self.0);
-        assert!(missing.is_empty(), "not seen {least} times: {missing:?}");
-    }
-}
-
-fn verdict_name(verdict: Verdict) -> String {
-    let side = |side| match side {
-        Side::Over => "over",
-        Side::Under => "under",
-    };
-    match verdict {
-        Verdict::Safe => "safe".to_string(),
-        Verdict::Broken(named) => format!("broken {}", side(named.side)),
-        Verdict::Undecided(named) => format!("undecided {}", side(named.side)),
-    }
-}
 
 fn line_name(sense: Sense) -> &'static str {
     match sense {
@@ -87,7 +48,7 @@ fn leaves_out_starts(job: &Job, sense: Sense, exact: &Exact, levels: u64) -> boo
         levels,
         ..job.clone()
     };
-    let stopped = fast::quick_run(&shorter, &fast::drawn_cover(job), sense, exact);
+    let stopped = fast::quick_run(&shorter, &fast::metal_cover(job), sense, exact);
     let across = job.last_position() / (job.window >> (levels - 1)) + 1;
     stopped.kept < across * across
 }

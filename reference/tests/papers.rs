@@ -24,7 +24,7 @@ fn window(area: u64, x: u64, y: u64) -> Window {
 /// Both extremes, after a check that both methods find the same.
 fn exact(file: &str) -> Exact {
     let job = fast::read(file.as_bytes()).unwrap();
-    let exact = fast::exact_run(&job, &fast::drawn_cover(&job));
+    let exact = fast::exact_run(&job, &fast::metal_cover(&job));
     assert_eq!(exact, brute::exact_run(&job, &brute::Grid::new(&job)));
     exact
 }
@@ -33,17 +33,21 @@ fn exact(file: &str) -> Exact {
 fn greatest(file: &str) -> Quick {
     let job = fast::read(file.as_bytes()).unwrap();
     let (sense, exact) = (Sense::Greatest, exact(file));
-    let quick = fast::quick_run(&job, &fast::drawn_cover(&job), sense, &exact);
+    let quick = fast::quick_run(&job, &fast::metal_cover(&job), sense, &exact);
     let grid = brute::Grid::new(&job);
     assert_eq!(quick, brute::quick_run(&job, &grid, sense, &exact));
     quick
 }
 
-/// Checks the three lines that show windows.
+/// Checks the three lines that show windows, which have no regard to kinds: all
+/// shapes as in the file, then the first one a dummy, then all.
 fn assert_windows(file: &str, lines: [&str; 3]) {
-    let printed = printed_by_both(file.as_bytes());
-    let shown: Vec<&str> = printed.lines().take(3).collect();
-    assert_eq!(shown, lines, "{file}");
+    for dummies in [0, 1, file.len()] {
+        let file = file.replacen("rect", "dummy", dummies);
+        let printed = printed_by_both(file.as_bytes());
+        let shown: Vec<&str> = printed.lines().take(3).collect();
+        assert_eq!(shown, lines, "{file}");
+    }
 }
 
 /// Checks the run for the least on a job with several accuracies and levels:
@@ -59,7 +63,7 @@ fn assert_least(file: impl Fn(&str) -> String, rows: &[&str]) {
 /// The verdict, after a check that both methods find the same.
 fn verdict(file: &str) -> Verdict {
     let job = fast::read(file.as_bytes()).unwrap();
-    let verdict = fast::verdict(&job, &fast::drawn_cover(&job));
+    let verdict = fast::verdict(&job, &fast::metal_cover(&job));
     assert_eq!(verdict, brute::verdict(&job, &brute::Grid::new(&job)));
     verdict
 }
@@ -104,7 +108,7 @@ fn printed_by_program(job: &str) -> String {
 #[test]
 fn a1_areas() {
     let job = fast::read(job_a("0 5000", "0 6").as_bytes()).unwrap();
-    let (cover, grid) = (fast::drawn_cover(&job), brute::Grid::new(&job));
+    let (cover, grid) = (fast::metal_cover(&job), brute::Grid::new(&job));
     for (at, area) in [(0, 1), (1, 4)] {
         assert_eq!(cover.area([at, at, at + 4, at + 4]), area);
         assert_eq!(grid.area(at..at + 4, at..at + 4), area);
@@ -248,15 +252,20 @@ fn lowest_fault_of_a_line() {
 }
 
 #[test]
-fn a_257th_rectangle_is_held_to_its_corners_first() {
+fn a_257th_shape_is_held_to_its_corners_first() {
+    let words = ["rect", "dummy"];
     let unit_square = |square: u64| {
         let (x, y) = (square % 16, square / 16);
-        format!("(rect {x} {y} {} {})\n", x + 1, y + 1)
+        let word = words[(x + y) as usize % 2];
+        format!("({word} {x} {y} {} {})\n", x + 1, y + 1)
     };
     let squares: String = (0..256).map(unit_square).collect();
     let head = HEAD.replace("size 8", "size 16");
-    refused(&format!("{head}{squares}(rect 0 0 17 1)\n"), 6, 258);
-    refused(&format!("{head}{squares}(rect 0 0 1 1)\n"), 8, 258);
+    for word in words {
+        refused(&format!("{head}{squares}({word} 0 0 17 1)\n"), 6, 258);
+        refused(&format!("{head}{squares}({word} 0 0 1 1)\n"), 8, 258);
+    }
+    refused(&format!("{head}{squares}"), 12, 258);
 }
 
 #[test]
@@ -596,4 +605,152 @@ fn covered_squares_are_not_fillable_without_a_gap() {
                 (rect 0 0 1 1)\n(fill 0 0 P)\n(end)\n";
     assert!(fast::read(file.replace('P', "3").as_bytes()).is_ok());
     refused(&file.replace('P', "4"), 11, 3);
+}
+
+/// Job A with its shape a dummy.
+fn job_a_of_dummy(gaps: &str, bounds: &str) -> String {
+    job_a(bounds, "0 6")
+        .replace("rect", "dummy")
+        .replace("gap 1", &format!("gap {gaps}"))
+}
+
+#[test]
+fn a_dummy_is_metal() {
+    // In every one of these the dummy has the gap that the drawn square has in
+    // job A, and no drawn metal is there to have the other.
+    for gaps in ["1", "1 1", "0 1", "65535 1"] {
+        let answer = printed_by_both(job_a_of_dummy(gaps, "0 5000").as_bytes());
+        assert_eq!(answer, ANSWER_A, "{gaps}");
+    }
+    // So the bounds take in the dummy: cases A7 and A8.
+    let over = |column, row| failure(Side::Over, column, row);
+    let under = |bounds| verdict(&job_a_of_dummy("9 1", bounds));
+    assert_eq!(under("0 2500"), Verdict::Undecided(over(0, 0)));
+    assert_eq!(under("0 2000"), Verdict::Broken(over(1, 1)));
+}
+
+/// Fillable area of each tile, after a check that both methods find the same.
+fn fillable(file: &str) -> Vec<u64> {
+    let job = fast::read(file.as_bytes()).unwrap();
+    let areas = fast::fillable_areas(&job);
+    assert_eq!(areas, brute::fillable_areas(&job), "{file}");
+    areas
+}
+
+#[test]
+fn each_kind_has_a_gap_of_its_own() {
+    // Job A's square, 3 to 5, is kept off from 2 to 6 by a gap of 1 and from 1 to
+    // 7 by one of 2. Tile 1 1 is 2 to 4: with no gap it lacks one square, else it
+    // has none. Tile 0 0 is 0 to 2: it has all but for a gap of 2, which takes the
+    // square at 1 1.
+    for (word, gaps, in_0_0, in_1_1) in [
+        ("rect", "1 0", 4, 0),
+        ("rect", "0 1", 4, 3),
+        ("rect", "2 0", 3, 0),
+        ("rect", "0 2", 4, 3),
+        ("dummy", "1", 4, 0),
+        ("dummy", "1 0", 4, 3),
+        ("dummy", "0 1", 4, 0),
+        ("dummy", "2 0", 4, 3),
+        ("dummy", "0 2", 3, 0),
+    ] {
+        let head = HEAD.replace("gap 1", &format!("gap {gaps}"));
+        let file = |rest: &str| format!("{head}({word} 3 3 5 5)\n{rest}(end)\n");
+        let areas = fillable(&file(""));
+        assert_eq!((areas[0], areas[4 + 1]), (in_0_0, in_1_1), "{word} {gaps}");
+        let amount = |column, amount| file(&format!("(fill {column} {column} {amount})\n"));
+        assert!(fast::read(amount(0, in_0_0).as_bytes()).is_ok());
+        refused(&amount(0, in_0_0 + 1), 11, 3);
+        refused(&amount(1, in_1_1 + 1), 11, 3);
+    }
+}
+
+#[test]
+fn both_gaps_in_one_layout() {
+    // Drawn metal along the left edge, up to 1, and a dummy along the right, from
+    // 7 on: left are the columns from 1 + B to before 7 - D. Tiles are 2 wide, so
+    // a column in a tile is 2 squares of it.
+    for (gaps, row) in [
+        ("0", [2, 4, 4, 2]),
+        ("2", [0, 2, 2, 0]),
+        ("2 3", [0, 2, 0, 0]),
+        ("3 2", [0, 0, 2, 0]),
+        ("1 3", [0, 4, 0, 0]),
+        ("3 1", [0, 0, 4, 0]),
+        ("0 5", [2, 0, 0, 0]),
+        ("5 0", [0, 0, 0, 2]),
+        ("0 6", [0, 0, 0, 0]),
+        ("2 4", [0, 0, 0, 0]),
+    ] {
+        let head = HEAD.replace("gap 1", &format!("gap {gaps}"));
+        let file = format!("{head}(rect 0 0 1 8)\n(dummy 7 0 8 8)\n(end)\n");
+        assert_eq!(fillable(&file), row.repeat(4), "{gaps}");
+    }
+}
+
+#[test]
+fn a_gap_on_one_axis_is_enough() {
+    // A dummy in the corner, up to 2, with a gap of 3: what it keeps off ends at 5
+    // on both axes. Tile 2 2 is 4 to 6, of which the square at 4 4 has a gap of 2
+    // across and down; the three others have 3 on an axis.
+    let head = HEAD.replace("gap 1", "gap 0 3");
+    let areas = fillable(&format!("{head}(dummy 0 0 2 2)\n(end)\n"));
+    assert_eq!(areas[..4], [0, 0, 2, 4]);
+    assert_eq!(areas[2 * 4..3 * 4], [2, 2, 3, 4]);
+}
+
+#[test]
+fn dummies_do_not_count_as_free_without_a_gap() {
+    let file = "(job (size 4) (window 2) (cut 1) (gap 5 0) (bounds 0 10000) (zoom 0 6))\n\
+                (dummy 0 0 1 1)\n(fill 0 0 P)\n(end)\n";
+    assert!(fast::read(file.replace('P', "3").as_bytes()).is_ok());
+    refused(&file.replace('P', "4"), 11, 3);
+}
+
+#[test]
+fn faults_of_a_dummy() {
+    // Among the shapes, wherever it stands, and nowhere else.
+    refused_after_head("(dummy 0 0 1 1)\n(rect 1 0 2 1)\n(dummy 0 1 1 2)\n", 12, 5);
+    refused("(dummy 0 0 1 1)\n", 4, 1);
+    refused_after_head("(fill 0 0 1)\n(dummy 5 5 4 4)\n", 4, 3);
+    refused_after_head("(end)\n(dummy 0 0 1 1)\n", 4, 3);
+    // Its numbers, its corners, and what it overlaps or what overlaps it.
+    refused_after_head("(dummy 0 0 65536 1)\n", 3, 2);
+    refused_after_head("(fill 0 0 1)\n(dummy 0 0 65536 1)\n", 3, 3);
+    refused_after_head("(dummy 4 4 4 5)\n", 6, 2);
+    refused_after_head("(dummy 7 7 8 9)\n", 6, 2);
+    refused_after_head("(rect 0 0 2 2)\n(dummy 1 1 3 3)\n", 9, 3);
+    refused_after_head("(dummy 0 0 2 2)\n(rect 1 1 3 3)\n", 9, 3);
+    refused_after_head("(dummy 0 0 2 2)\n(dummy 1 1 3 3)\n", 9, 3);
+    refused_after_head("(dummy 0 0 2 2)\n(rect 2 2 3 3)\n(rect 0 2 2 3)\n", 12, 5);
+    // Its spelling.
+    refused_after_head("(dummy 0 0 1)\n", 2, 2);
+    refused_after_head("(Dummy 0 0 1 1)\n", 2, 2);
+}
+
+#[test]
+fn gaps_of_a_head() {
+    let head = |gap: &str| HEAD.replace("(gap 1)", gap);
+    for good in ["(gap 0)", "(gap 0 0)", "(gap 65535 0)", "(gap 0 65535)"] {
+        refused(&head(good), 12, 2);
+    }
+    for outside in ["(gap 1 65536)", "(gap 65536 1)", "(gap 1 9999999999)"] {
+        refused(&head(outside), 3, 1);
+        // Before disagreement, and in a second head before its turn.
+        refused(&head(outside).replace("window 4", "window 9"), 3, 1);
+        refused_after_head(&head(outside), 3, 2);
+    }
+    for misspelled in [
+        "(gap )",
+        "(gap 1 )",
+        "(gap 1  2)",
+        "(gap 1 2 3)",
+        "(gap 1 02)",
+    ] {
+        refused(&head(misspelled), 2, 1);
+    }
+    refused(&head("(gap 1 12345678901)"), 2, 1);
+    refused(&head("(gap 1 2)").replace("window 4", "window 9"), 5, 1);
+    refused_after_head(&head("(gap 1 2)"), 4, 2);
+    refused_after_head(&head("(gap 1 2)").replace("window 4", "window 9"), 4, 2);
 }

@@ -10,9 +10,10 @@ use reference::fast;
 use reference::generate::{
     bytes_of, damaged_job, faulty_job, small_job, small_lines, Line, Random,
 };
-use reference::job::Job;
+use reference::job::{Job, Kind, Shape};
 use reference::outcome::{End, Failure, Outcome, Quick, Shown, Side, Verdict, Window};
 use reference::sense::Sense;
+use std::cell::Cell;
 
 /// Runs a check on random sources with consecutive seeds.
 fn for_seeds(first: u64, count: u64, check: impl Fn(&mut Random)) {
@@ -71,7 +72,7 @@ fn fillable_areas_agree() {
 fn named_windows_and_brackets() {
     for_seeds(50_000, 3000, |random| {
         let job = valid_job(random);
-        let (grid, cover) = (Grid::new(&job), fast::drawn_cover(&job));
+        let (grid, cover) = (Grid::new(&job), fast::metal_cover(&job));
         let exact = fast::exact_run(&job, &cover);
         let positions = 0..job.last_position() + 1;
         for (x, y) in brute::squares(positions.clone(), positions) {
@@ -100,7 +101,7 @@ fn assert_bracket(job: &Job, quick: &Quick, extreme: u64) {
 }
 
 /// A window without metal has no shapes, any other has some. They are at most
-/// all that are drawn, and each has a square of the window for itself.
+/// all that there are, and each has a square of the window for itself.
 #[test]
 fn shapes_under_every_window() {
     for_seeds(90_000, 3000, |random| {
@@ -113,7 +114,7 @@ fn shapes_under_every_window() {
             let corners = Window { area, x, y }.corners(job.window);
             assert_eq!(fast::shapes(&job, corners), shapes);
             assert_eq!(shapes == 0, area == 0);
-            assert!(shapes <= area.min(job.rects.len() as u64));
+            assert!(shapes <= area.min(job.shapes.len() as u64));
         }
         let Outcome {
             exact,
@@ -133,7 +134,7 @@ fn shapes_under_every_window() {
 fn more_levels_narrow_the_bracket() {
     for_seeds(80_000, 3000, |random| {
         let mut job = valid_job(random);
-        let cover = fast::drawn_cover(&job);
+        let cover = fast::metal_cover(&job);
         let exact = fast::exact_run(&job, &cover);
         for sense in Sense::BOTH {
             let runs = [1, 2, 3, 4, 5, 6].map(|levels| {
@@ -201,7 +202,7 @@ impl Placement {
         Placement(chosen)
     }
 
-    /// Drawn and chosen squares of the window at a position.
+    /// Covered and chosen squares of the window at a position.
     fn sum_at(&self, job: &Job, grid: &Grid, x: u64, y: u64) -> u64 {
         let is_taken = |&(x, y): &(u64, u64)| self.0[(y * job.size + x) as usize];
         let squares = brute::squares(x..x + job.window, y..y + job.window);
@@ -244,6 +245,115 @@ fn assert_breaks(job: &Job, grid: &Grid, placement: &Placement, named: Failure) 
     assert!(!keeps, "{job:?}");
 }
 
+/// Lines with each shape's kind as the function says.
+fn with_kinds(mut lines: Vec<Line>, mut kind: impl FnMut(Kind) -> Kind) -> Vec<Line> {
+    for line in &mut lines {
+        if let Line::Shape(shape) = line {
+            shape.kind = kind(shape.kind);
+        }
+    }
+    lines
+}
+
+/// Lines whose heads have the gaps that the function gives for theirs.
+fn with_gaps(
+    mut lines: Vec<Line>,
+    gaps: impl Fn(u64, Option<u64>) -> (u64, Option<u64>),
+) -> Vec<Line> {
+    for line in &mut lines {
+        if let Line::Head(numbers, dummy_gap) = line {
+            (numbers[3], *dummy_gap) = gaps(numbers[3], *dummy_gap);
+        }
+    }
+    lines
+}
+
+fn printed_lines(lines: &[Line]) -> String {
+    printed_by_both(&bytes_of(lines))
+}
+
+fn is_dummy(line: &Line) -> bool {
+    matches!(
+        line,
+        Line::Shape(Shape {
+            kind: Kind::Dummy,
+            ..
+        })
+    )
+}
+
+/// A file that knows of no dummy means the same with any dummy gap stated.
+#[test]
+fn without_dummies_their_gap_is_nothing() {
+    let checked = Cell::new(0);
+    for_seeds(100_000, 1500, |random| {
+        let old = with_gaps(small_lines(random), |gap, _| (gap, None));
+        if old.iter().any(is_dummy) {
+            return;
+        }
+        let printed = printed_lines(&old);
+        assert!(!printed.starts_with("(refused"), "{printed}");
+        for dummy_gap in [0, 1, random.below(30), 65_535] {
+            let stated = with_gaps(old.clone(), |gap, _| (gap, Some(dummy_gap)));
+            assert_eq!(printed_lines(&stated), printed, "dummy gap {dummy_gap}");
+        }
+        checked.set(checked.get() + 1);
+    });
+    assert!(checked.get() > 600, "{} files", checked.get());
+}
+
+/// With one gap for both, drawn metal may be declared dummies and dummies drawn.
+/// Where the gaps differed before, the fills may be too much now, whatever the
+/// kinds.
+#[test]
+fn with_one_gap_the_kinds_are_nothing() {
+    let accepted = Cell::new(0);
+    for_seeds(110_000, 1500, |random| {
+        let one_gap = with_gaps(small_lines(random), |gap, _| (gap, None));
+        let both_gaps = with_gaps(one_gap.clone(), |gap, _| (gap, Some(gap)));
+        let printed = printed_lines(&one_gap);
+        accepted.set(accepted.get() + u64::from(!printed.starts_with("(refused")));
+        for lines in [
+            both_gaps.clone(),
+            with_kinds(one_gap.clone(), |_| Kind::Drawn),
+            with_kinds(one_gap, |_| Kind::Dummy),
+            with_kinds(both_gaps, |_| Kind::BOTH[random.below(2) as usize]),
+        ] {
+            assert_eq!(printed_lines(&lines), printed);
+        }
+    });
+    assert!(accepted.get() > 1000, "{} accepted", accepted.get());
+}
+
+/// Nothing tells the two kinds apart but which of the gaps is theirs.
+#[test]
+fn kinds_may_change_places_with_their_gaps() {
+    for_seeds(120_000, 1500, |random| {
+        let lines = small_lines(random);
+        let swapped = with_kinds(lines.clone(), |kind| match kind {
+            Kind::Drawn => Kind::Dummy,
+            Kind::Dummy => Kind::Drawn,
+        });
+        let swapped = with_gaps(swapped, |gap, dummy_gap| {
+            (dummy_gap.unwrap_or(gap), Some(gap))
+        });
+        assert_eq!(printed_lines(&swapped), printed_lines(&lines));
+    });
+}
+
+/// Gaps, and with them kinds, decide on fills alone.
+#[test]
+fn without_fills_gaps_and_kinds_are_nothing() {
+    for_seeds(130_000, 1500, |random| {
+        let mut lines = small_lines(random);
+        lines.retain(|line| !matches!(line, Line::Fill(_)));
+        let (gap, dummy_gap) = (random.below(30), Some(random.below(30)));
+        let others = with_gaps(lines.clone(), |_, _| (gap, dummy_gap));
+        let others = with_kinds(others, |_| Kind::BOTH[random.below(2) as usize]);
+        assert_eq!(printed_lines(&others), printed_lines(&lines));
+    });
+}
+
 /// Magnifying a job by an odd factor keeps the number of halvings, so all of
 /// the answer is the small one's, magnified, its shapes as many. This holds the fast method at
 /// full size to the squares counted at small size.
@@ -264,13 +374,15 @@ fn magnified_jobs_have_magnified_answers() {
 
 fn magnify(line: &mut Line, factor: u64) {
     match line {
-        Line::Head([size, window, _, gap, ..]) => {
+        Line::Head([size, window, _, gap, ..], dummy_gap) => {
             *size *= factor;
             *window *= factor;
             // A gap as wide as the layout stays so.
-            *gap = (*gap * factor).min(65_535);
+            for gap in [Some(gap), dummy_gap.as_mut()].into_iter().flatten() {
+                *gap = (*gap * factor).min(65_535);
+            }
         }
-        Line::Rect(corners) => corners.iter_mut().for_each(|side| *side *= factor),
+        Line::Shape(shape) => shape.corners.iter_mut().for_each(|side| *side *= factor),
         Line::Fill([_, _, amount]) => *amount *= factor * factor,
         Line::End => (),
     }

@@ -9,8 +9,9 @@
 //! for one that noise hides.
 //!
 //! An argument names an earlier state of the library, which is then timed in turn
-//! with the linked one; the lines in which their answers differ are shown. It is a
-//! shared object, made in that state's checkout by
+//! with the linked one; the lines in which their answers differ are shown. A job
+//! that it refuses, because it does not know all of its forms, is timed without it.
+//! It is a shared object, made in that state's checkout by
 //!
 //! ```text
 //! cc -shared -o earlier.so -Wl,--whole-archive target/staticlib/libunit.a target/staticlib/libphases.a -Wl,--no-whole-archive
@@ -18,7 +19,7 @@
 
 use comparison::timing::{in_turn, Sample};
 use comparison::{earlier, on_large_stack, plain, Library, LINKED};
-use reference::answer::{answer, ANSWER_ROOM};
+use reference::answer::{answer, Reply, ANSWER_ROOM};
 use reference::fast;
 use reference::generate::{large_jobs, LargeJob};
 use reference::job::Job;
@@ -129,15 +130,15 @@ impl Times {
     }
 }
 
-/// The drawn cover, which serves all phases behind the reader, counts with the
+/// The cover, which serves all phases behind the reader, counts with the
 /// exact run.
 fn second_times(file: &[u8], unfilled_file: &[u8], job: &Job) -> Times {
-    let cover = fast::drawn_cover(job);
+    let cover = fast::metal_cover(job);
     let extremes = fast::exact_run(job, &cover);
     let quick = |sense| least_time(|| fast::quick_run(job, &cover, sense, &extremes));
     let unfilled = least_time(|| fast::read(unfilled_file));
     let reading = least_time(|| fast::read(file));
-    let exact = least_time(|| fast::exact_run(job, &fast::drawn_cover(job)));
+    let exact = least_time(|| fast::exact_run(job, &fast::metal_cover(job)));
     Times {
         unfilled: above_noise(unfilled),
         fills: difference(reading, unfilled),
@@ -148,6 +149,17 @@ fn second_times(file: &[u8], unfilled_file: &[u8], job: &Job) -> Times {
         verdict: above_noise(least_time(|| fast::verdict(job, &cover))),
         answer: above_noise(least_time(|| answer(file, &mut [0; ANSWER_ROOM]))),
     }
+}
+
+/// The earlier library, if there is one and it does not refuse the job; a refusal
+/// is shown.
+fn accepting(earlier: Option<Library>, file: &[u8]) -> Option<Library> {
+    let reply = earlier?.answer(file, &mut [0; ANSWER_ROOM]);
+    if let Reply::Refused { number, line } = reply {
+        println!("  no time before: (refused {number} {line})");
+        return None;
+    }
+    earlier
 }
 
 /// Shows what the linked library and an earlier one answer differently.
@@ -224,15 +236,16 @@ fn print_table(libraries: &[Times], second: &Times, [strips, all]: [Milliseconds
     print_ratio("least / greatest", proved.least, proved.greatest);
 }
 
-fn bench(libraries: &[Library], large: &LargeJob) {
+fn bench(earlier: Option<Library>, large: &LargeJob) {
     let (file, unfilled_file) = (&large.job, large.without_fills());
     let job = fast::read(file).expect("large jobs are valid");
-    let proved = proved_times(libraries, file, &unfilled_file);
+    println!("{} ({} bytes)", large.name, file.len());
+    let libraries: Vec<Library> = once(LINKED).chain(accepting(earlier, file)).collect();
+    let proved = proved_times(&libraries, file, &unfilled_file);
     let second = second_times(file, &unfilled_file, &job);
     let loops = [plain::summing_strips, plain::summing_all]
         .map(|areas| above_noise(least_time(|| areas(&job))));
-    println!("{} ({} bytes)", large.name, file.len());
-    print_changes(libraries, file);
+    print_changes(&libraries, file);
     print_table(&proved, &second, loops);
 }
 
@@ -245,10 +258,9 @@ fn main() -> ExitCode {
         Some(Ok(library)) => Some(library),
         None => None,
     };
-    let libraries: Vec<Library> = once(LINKED).chain(earlier).collect();
     on_large_stack(move || {
         let jobs = large_jobs();
-        jobs.iter().for_each(|large| bench(&libraries, large));
+        jobs.iter().for_each(|large| bench(earlier, large));
     });
     ExitCode::SUCCESS
 }

@@ -1,6 +1,8 @@
 //! What changed since an earlier state of the library: many jobs through it and
 //! through the linked one, and the number of lines that differ, by the word that
-//! they begin with. The argument names the earlier state, as for the benchmark.
+//! they begin with. Jobs with a form that the earlier state did not know are
+//! counted apart: no line of theirs can be compared. The argument names the
+//! earlier state, as for the benchmark.
 
 use comparison::earlier::{self, changed_lines, word_of};
 use comparison::{on_large_stack, LINKED};
@@ -30,25 +32,37 @@ fn jobs() -> impl Iterator<Item = Vec<u8>> {
     limits.chain(heaviest).chain(random)
 }
 
-/// How many jobs were answered, how many of them alike, and how many lines
-/// changed that begin with a word.
+/// How many jobs were answered, how many of them have a form that is new, how
+/// many were answered alike, and how many lines of the others changed that begin
+/// with a word.
 #[derive(Default)]
 struct Changes {
     jobs: u64,
+    newly_spelled: u64,
     alike: u64,
     lines: BTreeMap<String, u64>,
 }
 
 impl Changes {
     fn see(&mut self, now: &str, before: &str) {
-        let changed = changed_lines(now, before);
         self.jobs += 1;
+        if is_newly_spelled(now, before) {
+            self.newly_spelled += 1;
+            return;
+        }
+        let changed = changed_lines(now, before);
         self.alike += u64::from(changed.is_empty());
         for [now, before] in changed {
             let line = if now.is_empty() { before } else { now };
             *self.lines.entry(word_of(line).to_string()).or_default() += 1;
         }
     }
+}
+
+/// Whether the earlier state stopped at a line that is none of its spellings, and
+/// the linked one did not stop there for that.
+fn is_newly_spelled(now: &str, before: &str) -> bool {
+    before.starts_with("(refused 2 ") && now != before
 }
 
 fn main() -> ExitCode {
@@ -65,8 +79,14 @@ fn main() -> ExitCode {
         for job in jobs() {
             changes.see(&LINKED.printed(&job), &before.printed(&job));
         }
-        println!("{} jobs, {} answered alike", changes.jobs, changes.alike);
-        for (word, count) in changes.lines {
+        let Changes {
+            jobs,
+            newly_spelled,
+            alike,
+            lines,
+        } = changes;
+        println!("{jobs} jobs, {newly_spelled} newly spelled, {alike} answered alike");
+        for (word, count) in lines {
             println!("{count} lines changed that begin with {word}");
         }
     });

@@ -1,7 +1,11 @@
 //! Jobs at the limits, each with the fault it must be refused with, if any.
 
+mod gaps;
+mod shapes;
+mod spellings;
+
 use super::line::{bytes_of, Line};
-use crate::job::{Refusal, LARGEST_FILE, MOST_RECTS};
+use crate::job::{Kind, Refusal, LARGEST_FILE};
 
 /// A named job whose acceptance or refusal is known.
 pub struct BoundaryJob {
@@ -15,10 +19,19 @@ pub struct BoundaryJob {
 pub fn boundary_jobs() -> Vec<BoundaryJob> {
     [
         file_lengths(),
-        rectangle_counts(),
+        shapes::counts(),
+        shapes::beyond_the_last(),
         head_limits(),
-        rectangle_limits(),
-        fill_limits(),
+        second_heads(),
+        spellings::of_heads(),
+        spellings::of_dummies(),
+        shapes::pairs(),
+        shapes::alone(),
+        shapes::out_of_turn(),
+        Kind::BOTH.into_iter().flat_map(fill_limits).collect(),
+        greatest_amounts(),
+        gaps::decided_by_either(),
+        gaps::wide(),
         halves_of_a_wide_window(),
         file_ends(),
     ]
@@ -47,7 +60,10 @@ fn refused(name: impl Into<String>, job: Vec<u8>, number: u32, line: u32) -> Bou
 /// tiles across, even one digit for each would be too long.
 fn file_of_length(length: usize) -> Vec<u8> {
     let tiles = 60;
-    let mut lines = vec![Line::Head([1000 * tiles, 1000, 1, 0, 0, 10_000, 0, 6])];
+    let mut lines = vec![Line::Head(
+        [1000 * tiles, 1000, 1, 0, 0, 10_000, 0, 6],
+        None,
+    )];
     for tile in 0..tiles * tiles {
         lines.push(Line::Fill([tile % tiles, tile / tiles, 1]));
     }
@@ -72,29 +88,6 @@ fn file_lengths() -> Vec<BoundaryJob> {
         refused("60,001 bytes, none good", vec![b'x'; long], 1, 0),
         refused("60,000 line feeds", vec![b'\n'; LARGEST_FILE], 2, 1),
         refused("60,001 line feeds", vec![b'\n'; long], 1, 0),
-    ]
-}
-
-/// A job with layout and window of these sides and so many unit squares.
-fn unit_squares(size: u64, window: u64, count: usize) -> Vec<u8> {
-    let mut lines = vec![Line::Head([size, window, 2, 1, 0, 10_000, 0, 6])];
-    for square in 0..count as u64 {
-        let (x, y) = (square % size, square / size);
-        lines.push(Line::Rect([x, y, x + 1, y + 1]));
-    }
-    lines.push(Line::End);
-    bytes_of(&lines)
-}
-
-fn rectangle_counts() -> Vec<BoundaryJob> {
-    let spread = |count| unit_squares(20, 4, count);
-    let gathered = unit_squares(16, 16, MOST_RECTS);
-    vec![
-        accepted("no rectangle", spread(0)),
-        accepted("255 rectangles", spread(MOST_RECTS - 1)),
-        accepted("256 rectangles", spread(MOST_RECTS)),
-        refused("257 rectangles", spread(MOST_RECTS + 1), 8, 258),
-        accepted("256 rectangles under one window", gathered),
     ]
 }
 
@@ -138,93 +131,90 @@ const HEADS_THAT_DISAGREE: [[u64; 8]; 7] = [
     [8, 4, 2, 1, 5001, 5000, 0, 6],
 ];
 
+/// Dummy gaps that a head may state, or none.
+const GOOD_DUMMY_GAPS: [Option<u64>; 4] = [None, Some(0), Some(1), Some(65_535)];
+
+const DUMMY_GAPS_OUT_OF_RANGE: [Option<u64>; 2] = [Some(65_536), Some(9_999_999_999)];
+
+/// Where a number is out of its range, it does not matter whether the head agrees.
 fn head_limits() -> Vec<BoundaryJob> {
-    let file = |head: [u64; 8]| bytes_of(&[Line::Head(head), Line::End]);
-    let name = |head: [u64; 8]| format!("head {head:?}");
-    let good = GOOD_HEADS.map(|head| accepted(name(head), file(head)));
-    let outside = HEADS_OUT_OF_RANGE.map(|head| refused(name(head), file(head), 3, 1));
-    let disagree = HEADS_THAT_DISAGREE.map(|head| refused(name(head), file(head), 5, 1));
-    good.into_iter().chain(outside).chain(disagree).collect()
+    let good = GOOD_DUMMY_GAPS.into_iter().flat_map(|dummy_gap| {
+        let with_fault = |fault| move |head| head_alone(head, dummy_gap, fault);
+        let good = GOOD_HEADS.map(with_fault(None));
+        let outside = HEADS_OUT_OF_RANGE.map(with_fault(Some(3)));
+        let disagree = HEADS_THAT_DISAGREE.map(with_fault(Some(5)));
+        good.into_iter().chain(outside).chain(disagree)
+    });
+    let outside = DUMMY_GAPS_OUT_OF_RANGE.into_iter().flat_map(|dummy_gap| {
+        let heads = GOOD_HEADS.into_iter().chain(HEADS_THAT_DISAGREE);
+        heads.map(move |head| head_alone(head, dummy_gap, Some(3)))
+    });
+    good.chain(outside).collect()
 }
+
+/// A head with nothing behind it but the end, and the fault it has.
+fn head_alone(head: [u64; 8], dummy_gap: Option<u64>, fault: Option<u32>) -> BoundaryJob {
+    let name = format!("head {head:?}, dummy gap {dummy_gap:?}");
+    let file = bytes_of(&[Line::Head(head, dummy_gap), Line::End]);
+    match fault {
+        None => accepted(name, file),
+        Some(number) => refused(name, file, number, 1),
+    }
+}
+
+/// A second head is held to its range, and then has no turn, agree or not.
+fn second_heads() -> Vec<BoundaryJob> {
+    let second = |head, dummy_gap, number| {
+        let name = format!("second head {head:?}, dummy gap {dummy_gap:?}");
+        refused(name, small_file(&[Line::Head(head, dummy_gap)]), number, 2)
+    };
+    let heads = [SMALL_HEAD, HEADS_THAT_DISAGREE[0]];
+    let of_head = |head| {
+        let good = GOOD_DUMMY_GAPS.map(|gap| second(head, gap, 4));
+        let outside = DUMMY_GAPS_OUT_OF_RANGE.map(|gap| second(head, gap, 3));
+        good.into_iter().chain(outside)
+    };
+    heads.into_iter().flat_map(of_head).collect()
+}
+
+const SMALL_HEAD: [u64; 8] = [8, 4, 2, 1, 0, 5000, 0, 6];
 
 /// A file with the head of a small job, these lines and the end.
 fn small_file(lines: &[Line]) -> Vec<u8> {
-    let head = Line::Head([8, 4, 2, 1, 0, 5000, 0, 6]);
+    let head = Line::Head(SMALL_HEAD, None);
     let file = [&[head], lines, &[Line::End]];
     bytes_of(&file.concat())
 }
 
-const FIRST: [u64; 4] = [3, 3, 5, 5];
-
-const TOUCH_THE_FIRST: [[u64; 4]; 8] = [
-    [5, 3, 7, 5],
-    [1, 3, 3, 5],
-    [3, 5, 5, 7],
-    [3, 1, 5, 3],
-    [5, 5, 8, 8],
-    [0, 0, 3, 3],
-    [0, 5, 3, 8],
-    [5, 0, 8, 3],
-];
-
-const OVERLAP_THE_FIRST: [[u64; 4]; 8] = [
-    [4, 4, 8, 8],
-    [0, 0, 4, 4],
-    [0, 4, 4, 8],
-    [4, 0, 8, 4],
-    [3, 3, 5, 5],
-    [3, 3, 4, 4],
-    [0, 0, 8, 8],
-    [4, 0, 5, 8],
-];
-
-const BAD_CORNERS: [[u64; 4]; 6] = [
-    [3, 3, 3, 5],
-    [3, 3, 5, 3],
-    [5, 3, 3, 5],
-    [3, 5, 5, 3],
-    [7, 7, 9, 8],
-    [7, 7, 8, 9],
-];
-
-fn rectangle_limits() -> Vec<BoundaryJob> {
-    let pair = |rect| small_file(&[Line::Rect(FIRST), Line::Rect(rect)]);
-    let name = |rect: [u64; 4]| format!("rectangle {rect:?} after {FIRST:?}");
-    let touch = TOUCH_THE_FIRST.map(|rect| accepted(name(rect), pair(rect)));
-    let overlap = OVERLAP_THE_FIRST.map(|rect| refused(name(rect), pair(rect), 9, 3));
-    let bad = BAD_CORNERS.map(|rect| refused(name(rect), pair(rect), 6, 3));
-    let edge = small_file(&[Line::Rect([7, 7, 8, 8])]);
-    let beyond = small_file(&[Line::Rect([0, 0, 65_536, 1])]);
-    let single = [
-        accepted("rectangle in the corner", edge),
-        refused("corner out of range", beyond, 3, 2),
-    ];
-    let pairs = touch.into_iter().chain(overlap).chain(bad);
-    pairs.chain(single).collect()
+/// Fills beside a shape of this kind, the head with one gap for both.
+fn fill_limits(kind: Kind) -> Vec<BoundaryJob> {
+    let shape = Line::shape(kind, [3, 3, 5, 5]);
+    let filled = |fill| small_file(&[shape, Line::Fill(fill)]);
+    let twice = small_file(&[shape, Line::Fill([0, 0, 1]), Line::Fill([0, 0, 1])]);
+    let name = |what: &str| format!("{what}, {kind:?}");
+    vec![
+        accepted(name("all that tile 0 0 can take"), filled([0, 0, 4])),
+        refused(name("one more than it can take"), filled([0, 0, 5]), 11, 3),
+        refused(name("a tile that can take none"), filled([1, 1, 1]), 11, 3),
+        refused(name("no fill"), filled([0, 0, 0]), 3, 3),
+        accepted(name("the last tile"), filled([3, 3, 4])),
+        refused(name("a column too far"), filled([4, 3, 1]), 7, 3),
+        refused(name("a row too far"), filled([3, 4, 1]), 7, 3),
+        refused(name("column 63"), filled([63, 0, 1]), 7, 3),
+        refused(name("column 64"), filled([64, 0, 1]), 3, 3),
+        refused(name("a tile filled twice"), twice, 10, 4),
+    ]
 }
 
-fn fill_limits() -> Vec<BoundaryJob> {
-    let rect = Line::Rect([3, 3, 5, 5]);
-    let filled = |fill| small_file(&[rect, Line::Fill(fill)]);
-    let twice = small_file(&[rect, Line::Fill([0, 0, 1]), Line::Fill([0, 0, 1])]);
+fn greatest_amounts() -> Vec<BoundaryJob> {
     let largest = |amount| {
         bytes_of(&[
-            Line::Head([65_535, 65_535, 1, 0, 0, 10_000, 0, 6]),
+            Line::Head([65_535, 65_535, 1, 0, 0, 10_000, 0, 6], None),
             Line::Fill([0, 0, amount]),
             Line::End,
         ])
     };
     vec![
-        accepted("all that tile 0 0 can take", filled([0, 0, 4])),
-        refused("one more than it can take", filled([0, 0, 5]), 11, 3),
-        refused("a tile that can take none", filled([1, 1, 1]), 11, 3),
-        refused("no fill", filled([0, 0, 0]), 3, 3),
-        accepted("the last tile", filled([3, 3, 4])),
-        refused("a column too far", filled([4, 3, 1]), 7, 3),
-        refused("a row too far", filled([3, 4, 1]), 7, 3),
-        refused("column 63", filled([63, 0, 1]), 7, 3),
-        refused("column 64", filled([64, 0, 1]), 3, 3),
-        refused("a tile filled twice", twice, 10, 4),
         accepted("the greatest amount", largest(4_294_836_225)),
         refused("beyond it", largest(4_294_836_226), 3, 2),
     ]
@@ -244,9 +234,9 @@ fn halves_of_a_wide_window() -> Vec<BoundaryJob> {
         ]
         .map(|(difference, last_width)| {
             let lines = [
-                Line::Head([8 * eighth, 8 * eighth, 1, 0, 0, 10_000, 0, 6]),
-                Line::Rect([0, 0, width, last]),
-                Line::Rect([0, last, last_width, height]),
+                Line::Head([8 * eighth, 8 * eighth, 1, 0, 0, 10_000, 0, 6], None),
+                Line::shape(Kind::Drawn, [0, 0, width, last]),
+                Line::shape(Kind::Drawn, [0, last, last_width, height]),
                 Line::End,
             ];
             accepted(format!("density {density}{difference}"), bytes_of(&lines))

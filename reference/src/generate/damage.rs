@@ -23,7 +23,7 @@ pub fn damaged_job(random: &mut Random) -> Vec<u8> {
 /// Damages a file in one way.
 fn damage(random: &mut Random, file: &mut Vec<u8>) {
     let place = random.index(file.len() + 1);
-    match random.below(10) {
+    match random.below(11) {
         0 => flip(random, file, place),
         1 => delete(random, file, place),
         2 => file.insert(place, random.pick(TROUBLE)),
@@ -32,7 +32,8 @@ fn damage(random: &mut Random, file: &mut Vec<u8>) {
         5 => swap_two_lines(random, file),
         6 => spoil_a_line_end(random, file),
         7 => spoil_a_number(random, file),
-        8 => file.extend_from_slice(random.pick(&[&b"(end)"[..], b"(end)\n", b"\n", b" ", b"\0"])),
+        8 => exchange(random, file),
+        9 => file.extend_from_slice(random.pick(&[&b"(end)"[..], b"(end)\n", b"\n", b" ", b"\0"])),
         _ => replace(random, file, place),
     }
 }
@@ -80,7 +81,7 @@ fn swap_two_lines(random: &mut Random, file: &mut Vec<u8>) {
 
 /// Takes the line feed away, doubles it, or puts something before it.
 fn spoil_a_line_end(random: &mut Random, file: &mut Vec<u8>) {
-    if let Some(end) = pick_place(random, file, |byte| byte == b'\n') {
+    if let Some(end) = pick_place(random, file, |rest| rest[0] == b'\n') {
         let instead: &[u8] = random.pick(&[&b""[..], b"\n\n", b"\r\n", b" \n", b"\t\n", b"\0\n"]);
         file.splice(end..=end, instead.iter().copied());
     }
@@ -88,13 +89,44 @@ fn spoil_a_line_end(random: &mut Random, file: &mut Vec<u8>) {
 
 /// Puts digits or signs before a digit.
 fn spoil_a_number(random: &mut Random, file: &mut Vec<u8>) {
-    if let Some(digit) = pick_place(random, file, |byte| byte.is_ascii_digit()) {
+    if let Some(digit) = pick_place(random, file, |rest| rest[0].is_ascii_digit()) {
         let before = random.pick(&["0", "00", "-", "+", " ", "1", "12345678901", "9999999999"]);
         file.splice(digit..digit, before.bytes());
     }
 }
 
-fn pick_place(random: &mut Random, file: &[u8], is_meant: impl Fn(u8) -> bool) -> Option<usize> {
-    let places: Vec<usize> = (0..file.len()).filter(|&p| is_meant(file[p])).collect();
+/// Texts of a file, each with some that are as good there, or nearly so.
+const EXCHANGES: &[(&str, &[&str])] = &[
+    ("(rect ", &["(dummy ", "(dummy ", "(fill ", "(rec "]),
+    (
+        "(dummy ",
+        &["(rect ", "(fill ", "(Dummy ", "(dumm ", "(dummy"],
+    ),
+    (
+        "(gap ",
+        &["(gap 0 ", "(gap 1 ", "(gap 65536 ", "(gap  ", "(gap 1 2 "],
+    ),
+    (
+        ") (bounds",
+        &[
+            " 0) (bounds",
+            " 2) (bounds",
+            " 65536) (bounds",
+            " ) (bounds",
+        ],
+    ),
+];
+
+fn exchange(random: &mut Random, file: &mut Vec<u8>) {
+    let (text, others) = random.pick(EXCHANGES);
+    if let Some(place) = pick_place(random, file, |rest| rest.starts_with(text.as_bytes())) {
+        let other = random.pick(others);
+        file.splice(place..place + text.len(), other.bytes());
+    }
+}
+
+/// A place of the file from which on it is as meant, if there is one.
+fn pick_place(random: &mut Random, file: &[u8], is_meant: impl Fn(&[u8]) -> bool) -> Option<usize> {
+    let places: Vec<usize> = (0..file.len()).filter(|&p| is_meant(&file[p..])).collect();
     (!places.is_empty()).then(|| random.pick(&places))
 }

@@ -1,10 +1,11 @@
 //! Random jobs that are well spelled but break the rules, often several.
 
+use super::kinds::{of_random_kind, of_random_kinds};
 use super::line::{bytes_of, Line};
 use super::random::Random;
 use super::small::small_lines;
 use crate::fast;
-use crate::job::{Job, Ranges, FILL_RANGES, HEAD_RANGES, MOST_RECTS, RECT_RANGES};
+use crate::job::{Job, Ranges, CORNER_RANGES, FILL_RANGES, GAP, HEAD_RANGES, MOST_SHAPES};
 
 /// The faults that [`job_with_fault`] can bring about.
 pub const SPOILABLE: [u32; 10] = [3, 4, 5, 6, 7, 8, 9, 10, 11, 12];
@@ -34,22 +35,26 @@ fn spoiled(random: &mut Random, faults: &[u32]) -> Vec<Line> {
     lines
 }
 
-/// A job with as many rectangles as may stand.
+/// A job with as many shapes as may stand.
 fn crowded_lines(random: &mut Random) -> Vec<Line> {
     let size = random.between(17, 24);
-    let mut squares: Vec<Line> = (0..size * size)
+    let mut squares: Vec<[u64; 4]> = (0..size * size)
         .map(|square| unit_square(square % size, square / size))
         .collect();
     random.shuffle(&mut squares);
-    squares.truncate(MOST_RECTS);
-    let mut lines = vec![Line::Head([size, 1, 1, 0, 0, 10_000, 0, 6])];
-    lines.extend(squares);
+    squares.truncate(MOST_SHAPES);
+    let mut lines = vec![Line::Head([size, 1, 1, 0, 0, 10_000, 0, 6], None)];
+    lines.extend(
+        of_random_kinds(random, squares)
+            .into_iter()
+            .map(Line::Shape),
+    );
     lines.push(Line::End);
     lines
 }
 
-fn unit_square(x: u64, y: u64) -> Line {
-    Line::Rect([x, y, x + 1, y + 1])
+fn unit_square(x: u64, y: u64) -> [u64; 4] {
+    [x, y, x + 1, y + 1]
 }
 
 fn spoil(random: &mut Random, lines: &mut Vec<Line>, job: &Job, fault: u32) {
@@ -57,23 +62,30 @@ fn spoil(random: &mut Random, lines: &mut Vec<Line>, job: &Job, fault: u32) {
         3 => leave_a_range(random, lines),
         4 => disturb_the_order(random, lines),
         5 => upset_the_head(random, lines),
-        6 => insert_rect(random, lines, |random| bad_corners(random, job)),
+        6 => insert_shape(random, lines, |random| bad_corners(random, job)),
         7 => insert_fill(random, lines, |random| absent_tile(random, job)),
-        8 => insert_rect(random, lines, |random| free_square(random, job)),
-        9 => insert_rect(random, lines, |random| overlapping(random, job)),
+        8 => insert_shape(random, lines, |random| free_square(random, job)),
+        9 => insert_shape(random, lines, |random| overlapping(random, job)),
         10 => repeat_a_fill(random, lines),
-        11 => insert_fill(random, lines, |random| too_much(random, job)),
+        11 if random.one_in(2) => widen_a_gap(random, lines),
+        11 => overfill(random, lines, job),
         12 => lines.retain(|line| *line != Line::End),
         _ => unreachable!("only the faults of well spelled jobs"),
     }
 }
 
-/// Puts one number of one line outside its range.
+/// Puts one number of one line outside its range, often of the first line, which
+/// has most of the ranges.
 fn leave_a_range(random: &mut Random, lines: &mut [Line]) {
-    let line = &mut lines[random.index(lines.len())];
-    match line {
-        Line::Head(numbers) => leave_one(random, numbers, &HEAD_RANGES),
-        Line::Rect(numbers) => leave_one(random, numbers, &RECT_RANGES),
+    let place = if random.one_in(4) {
+        0
+    } else {
+        random.index(lines.len())
+    };
+    match &mut lines[place] {
+        Line::Head(_, Some(gap)) if random.one_in(4) => *gap = outside(random, GAP),
+        Line::Head(numbers, _) => leave_one(random, numbers, &HEAD_RANGES),
+        Line::Shape(shape) => leave_one(random, &mut shape.corners, &CORNER_RANGES),
         Line::Fill(numbers) => leave_one(random, numbers, &FILL_RANGES),
         Line::End => (),
     }
@@ -81,9 +93,12 @@ fn leave_a_range(random: &mut Random, lines: &mut [Line]) {
 
 fn leave_one<const K: usize>(random: &mut Random, numbers: &mut [u64; K], ranges: &Ranges<K>) {
     let place = random.index(K);
-    let (least, greatest) = ranges[place];
+    numbers[place] = outside(random, ranges[place]);
+}
+
+fn outside(random: &mut Random, (least, greatest): (u64, u64)) -> u64 {
     let below = least.checked_sub(1).unwrap_or(greatest + 1);
-    numbers[place] = random.pick(&[below, greatest + 1, greatest + 1, 9_999_999_999]);
+    random.pick(&[below, greatest + 1, greatest + 1, 9_999_999_999])
 }
 
 /// Moves, repeats or adds a line where it has no turn, or just elsewhere.
@@ -97,8 +112,9 @@ fn disturb_the_order(random: &mut Random, lines: &mut Vec<Line>) {
         1 => lines.insert(to, lines[from]),
         2 => lines.push(lines[from]),
         _ => {
-            let mut stranger = random.pick(&[Line::End, Line::Fill([0, 0, 1]), lines[0]]);
-            if let Line::Head(head) = &mut stranger {
+            let shape = Line::Shape(of_random_kind(random, unit_square(0, 0)));
+            let mut stranger = random.pick(&[Line::End, Line::Fill([0, 0, 1]), shape, lines[0]]);
+            if let Line::Head(head, _) = &mut stranger {
                 head[1] = random.pick(&[head[1], head[0] + 1]);
             }
             lines.insert(to, stranger);
@@ -106,9 +122,17 @@ fn disturb_the_order(random: &mut Random, lines: &mut Vec<Line>) {
     }
 }
 
+/// The numbers of a head and the dummy gap that it states, or could.
+fn head_of(lines: &mut [Line]) -> Option<(&mut [u64; 8], &mut Option<u64>)> {
+    lines.iter_mut().find_map(|line| match line {
+        Line::Head(head, dummy_gap) => Some((head, dummy_gap)),
+        _ => None,
+    })
+}
+
 /// Makes the head disagree in one way, where the numbers allow it.
 fn upset_the_head(random: &mut Random, lines: &mut [Line]) {
-    let Some(Line::Head(head)) = lines.iter_mut().find(|l| matches!(l, Line::Head(_))) else {
+    let Some((head, _)) = head_of(lines) else {
         return;
     };
     let [size, window, cut, _, lower, upper, ..] = head;
@@ -121,12 +145,17 @@ fn upset_the_head(random: &mut Random, lines: &mut [Line]) {
     }
 }
 
-/// Inserts a rectangle before, between or after those that stand.
-fn insert_rect(random: &mut Random, lines: &mut Vec<Line>, rect: impl Fn(&mut Random) -> [u64; 4]) {
-    let is_rect = |line: &Line| matches!(line, Line::Rect(_));
+/// Inserts a shape of either kind before, between or after those that stand.
+fn insert_shape(
+    random: &mut Random,
+    lines: &mut Vec<Line>,
+    corners: impl Fn(&mut Random) -> [u64; 4],
+) {
+    let is_shape = |line: &Line| matches!(line, Line::Shape(_));
     let after_head = lines.len().min(1);
-    let place = place_among(random, lines, is_rect, after_head);
-    lines.insert(place, Line::Rect(rect(random)));
+    let place = place_among(random, lines, is_shape, after_head);
+    let corners = corners(random);
+    lines.insert(place, Line::Shape(of_random_kind(random, corners)));
 }
 
 /// Inserts a fill before, between or after those that stand.
@@ -162,27 +191,26 @@ fn anywhere(random: &mut Random, job: &Job) -> [u64; 4] {
     [x, y, x2 + 1, y2 + 1]
 }
 
-/// A unit square that no rectangle covers, found by trying; the layout of a
-/// crowded job has some.
+/// A unit square that is no shape, found by trying; the layout of a crowded job
+/// has some.
 fn free_square(random: &mut Random, job: &Job) -> [u64; 4] {
     loop {
-        let (x, y) = (random.below(job.size), random.below(job.size));
-        let square = [x, y, x + 1, y + 1];
-        if !job.rects.contains(&square) {
+        let square = unit_square(random.below(job.size), random.below(job.size));
+        if !job.boxes().any(|shape| shape == square) {
             return square;
         }
     }
 }
 
 fn bad_corners(random: &mut Random, job: &Job) -> [u64; 4] {
-    let mut rect = anywhere(random, job);
+    let mut corners = anywhere(random, job);
     let axis = random.index(2);
     match random.below(3) {
-        0 => rect[axis] = rect[axis + 2],
-        1 => rect.swap(axis, axis + 2),
-        _ => rect[axis + 2] = job.size + random.between(1, 3),
+        0 => corners[axis] = corners[axis + 2],
+        1 => corners.swap(axis, axis + 2),
+        _ => corners[axis + 2] = job.size + random.between(1, 3),
     }
-    rect
+    corners
 }
 
 fn absent_tile(random: &mut Random, job: &Job) -> [u64; 3] {
@@ -191,12 +219,12 @@ fn absent_tile(random: &mut Random, job: &Job) -> [u64; 3] {
     fill
 }
 
-/// A rectangle that shares squares with one that stands, often one square.
+/// A box that shares squares with a shape that stands, often one square.
 fn overlapping(random: &mut Random, job: &Job) -> [u64; 4] {
-    if job.rects.is_empty() {
+    if job.shapes.is_empty() {
         return anywhere(random, job);
     }
-    let [x1, y1, x2, y2] = random.pick(&job.rects);
+    let [x1, y1, x2, y2] = random.pick(&job.shapes).corners;
     match random.below(4) {
         0 => [x1, y1, x2, y2],
         1 => [x1, y1, x1 + 1, y1 + 1],
@@ -220,10 +248,43 @@ fn repeat_a_fill(random: &mut Random, lines: &mut Vec<Line>) {
     }
 }
 
-/// One square more than the tile can take.
+/// Widens one of the gaps and leaves the other, so that a fill of all the room
+/// in its tile is too much.
+fn widen_a_gap(random: &mut Random, lines: &mut [Line]) {
+    let Some(([_, _, _, gap, ..], stated)) = head_of(lines) else {
+        return;
+    };
+    let dummy_gap = stated.get_or_insert(*gap);
+    let widened = if random.one_in(2) { gap } else { dummy_gap };
+    *widened = (*widened + random.between(1, 3)).min(GAP.1);
+}
+
+/// Fills a tile with too much, in place of the fill that it has.
+fn overfill(random: &mut Random, lines: &mut Vec<Line>, job: &Job) {
+    let [column, row, amount] = too_much(random, job);
+    let is_of_tile =
+        |line: &Line| matches!(*line, Line::Fill([i, j, _]) if [i, j] == [column, row]);
+    lines.retain(|line| !is_of_tile(line));
+    insert_fill(random, lines, |_| [column, row, amount]);
+}
+
+/// One square more than a tile can take; if possible one that it could take if
+/// the narrower of the gaps served both kinds.
 fn too_much(random: &mut Random, job: &Job) -> [u64; 3] {
     let fillable = fast::fillable_areas(job);
-    let tile = random.index(fillable.len());
+    let narrower = job.gap.min(job.dummy_gap);
+    let with_one_gap = fast::fillable_areas(&Job {
+        gap: narrower,
+        dummy_gap: narrower,
+        ..job.clone()
+    });
+    let gains = |&tile: &usize| with_one_gap[tile] > fillable[tile];
+    let gaining: Vec<usize> = (0..fillable.len()).filter(gains).collect();
+    let tile = if gaining.is_empty() {
+        random.index(fillable.len())
+    } else {
+        random.pick(&gaining)
+    };
     let tiles = job.tiles();
     [tile as u64 % tiles, tile as u64 / tiles, fillable[tile] + 1]
 }

@@ -1,9 +1,10 @@
 //! The heaviest legal jobs, and random ones of their size.
 
+use super::kinds::{drawn, of_random_kinds};
 use super::line::{bytes_of, lines_of, Line};
 use super::random::Random;
 use crate::fast;
-use crate::job::{Job, LARGEST_FILE, LARGEST_SIDE, MOST_RECTS, MOST_TILES};
+use crate::job::{Job, Kind, LARGEST_FILE, LARGEST_SIDE, MOST_SHAPES, MOST_TILES};
 
 /// A named job of full size.
 pub struct LargeJob {
@@ -42,10 +43,12 @@ pub fn large_jobs() -> Vec<LargeJob> {
         named("single squares", single_squares()),
         named("covered wholly", covered_wholly()),
         named("filled wholly", filled_wholly()),
+        named("bars and dummies", bars_and_dummies()),
+        named("gaps that differ", gaps_that_differ()),
     ]
 }
 
-/// A job without rectangles and fills, bounds that hold always, and the quick
+/// A job without shapes and fills, bounds that hold always, and the quick
 /// runs as long as they get.
 fn bare_job(tile: u64, tiles: u64, cut: u64) -> Job {
     Job {
@@ -72,12 +75,12 @@ fn within_limit(job: &Job) -> Vec<u8> {
     bytes
 }
 
-/// Rectangles in a grid of up to 16 across, no two with a side on one line.
+/// Boxes in a grid of up to 16 across, no two with a side on one line.
 fn grid_of_different_sides(random: &mut Random, size: u64, across: u64) -> Vec<[u64; 4]> {
     let cell = size / across;
     let step = cell / (2 * across);
     let mut line = |place: u64, slot: u64| place * cell + slot * step + random.below(step);
-    let mut rects = Vec::new();
+    let mut boxes = Vec::new();
     for row in 0..across {
         for column in 0..across {
             // Slots scrambled by a prime above `across`, so that all differ but
@@ -85,18 +88,18 @@ fn grid_of_different_sides(random: &mut Random, size: u64, across: u64) -> Vec<[
             let (down, over) = (row * 19 % across, column * 19 % across);
             let (x1, y1) = (line(column, down), line(row, over));
             let (x2, y2) = (line(column, across + down), line(row, across + over));
-            rects.push([x1, y1, x2, y2]);
+            boxes.push([x1, y1, x2, y2]);
         }
     }
-    rects
+    boxes
 }
 
-/// Every side of 256 rectangles gives candidates of its own to the exact run.
+/// Every side of 256 shapes gives candidates of its own to the exact run.
 fn different_sides() -> Job {
     let mut random = Random::new(1);
     let mut job = bare_job(1285, 51, 16);
-    job.gap = 100;
-    job.rects = grid_of_different_sides(&mut random, job.size, 16);
+    (job.gap, job.dummy_gap) = (100, 100);
+    job.shapes = drawn(grid_of_different_sides(&mut random, job.size, 16));
     job.fills = fast::fillable_areas(&job);
     job
 }
@@ -104,10 +107,13 @@ fn different_sides() -> Job {
 /// Upright bars side by side, as many as may stand. `bar` gives each by its
 /// number, the left end of its room and the layout's size.
 fn barred(bare: Job, bar: impl Fn(u64, u64, u64) -> [u64; 4]) -> Job {
-    let bars = MOST_RECTS as u64;
+    let bars = MOST_SHAPES as u64;
     let room = bare.size / bars;
-    let rects = (0..bars).map(|k| bar(k, k * room, bare.size)).collect();
-    Job { rects, ..bare }
+    let boxes = (0..bars).map(|k| bar(k, k * room, bare.size)).collect();
+    Job {
+        shapes: drawn(boxes),
+        ..bare
+    }
 }
 
 /// A bar of about this width over nearly the full height. Those of different
@@ -172,12 +178,13 @@ fn bars_and_fills() -> Job {
 fn most_tiles() -> Job {
     let mut random = Random::new(3);
     let mut job = bare_job(1023, MOST_TILES, 32);
-    job.gap = 20;
+    (job.gap, job.dummy_gap) = (20, 20);
     job.lower = 1;
-    job.rects = grid_of_different_sides(&mut random, job.size, 10);
-    for rect in &mut job.rects {
-        rect[2] = rect[0] + 500;
+    let mut boxes = grid_of_different_sides(&mut random, job.size, 10);
+    for [x1, _, x2, _] in &mut boxes {
+        *x2 = *x1 + 500;
     }
+    job.shapes = drawn(boxes);
     let fillable = fast::fillable_areas(&job);
     job.fills = fillable.into_iter().map(|most| most.min(7)).collect();
     job
@@ -187,12 +194,13 @@ fn most_tiles() -> Job {
 fn wide_gaps() -> Job {
     let mut random = Random::new(4);
     let mut job = bare_job(1023, MOST_TILES, 64);
-    job.gap = 1200;
-    job.rects = grid_of_different_sides(&mut random, job.size, 16);
-    for rect in &mut job.rects {
-        rect[2] = rect[0] + 1 + random.below(300);
-        rect[3] = rect[1] + 1 + random.below(300);
+    (job.gap, job.dummy_gap) = (1200, 1200);
+    let mut boxes = grid_of_different_sides(&mut random, job.size, 16);
+    for [x1, y1, x2, y2] in &mut boxes {
+        *x2 = *x1 + 1 + random.below(300);
+        *y2 = *y1 + 1 + random.below(300);
     }
+    job.shapes = drawn(boxes);
     job.fills = fast::fillable_areas(&job);
     job
 }
@@ -201,7 +209,7 @@ fn wide_gaps() -> Job {
 fn ragged_starts() -> Job {
     let mut random = Random::new(5);
     let mut job = bare_job(1023, MOST_TILES, 48);
-    job.rects = grid_of_different_sides(&mut random, job.size, 16);
+    job.shapes = drawn(grid_of_different_sides(&mut random, job.size, 16));
     job.accuracy = 1;
     job
 }
@@ -209,17 +217,18 @@ fn ragged_starts() -> Job {
 fn single_squares() -> Job {
     let mut random = Random::new(6);
     let mut job = bare_job(3855, 17, 8);
-    job.rects = grid_of_different_sides(&mut random, job.size, 16);
-    for rect in &mut job.rects {
-        (rect[2], rect[3]) = (rect[0] + 1, rect[1] + 1);
+    let mut boxes = grid_of_different_sides(&mut random, job.size, 16);
+    for [x1, y1, x2, y2] in &mut boxes {
+        (*x2, *y2) = (*x1 + 1, *y1 + 1);
     }
+    job.shapes = drawn(boxes);
     job.fills = fast::fillable_areas(&job);
     job
 }
 
 fn covered_wholly() -> Job {
     let mut job = bare_job(1285, 51, 51);
-    job.rects = vec![[0, 0, LARGEST_SIDE, LARGEST_SIDE]];
+    job.shapes = drawn(vec![[0, 0, LARGEST_SIDE, LARGEST_SIDE]]);
     job.lower = 10_000;
     job
 }
@@ -227,6 +236,33 @@ fn covered_wholly() -> Job {
 fn filled_wholly() -> Job {
     let mut job = bare_job(LARGEST_SIDE, 1, 1);
     job.fills = vec![LARGEST_SIDE * LARGEST_SIDE];
+    job
+}
+
+/// Makes every third shape a dummy, and sets both gaps.
+fn with_dummies(job: Job, gap: u64, dummy_gap: u64) -> Job {
+    let mut shapes = job.shapes;
+    let thirds = shapes.iter_mut().step_by(3);
+    thirds.for_each(|shape| shape.kind = Kind::Dummy);
+    Job {
+        gap,
+        dummy_gap,
+        shapes,
+        ..job
+    }
+}
+
+/// The heaviest job with dummies among its bars. All bars leave room for the
+/// fill between them.
+fn bars_and_dummies() -> Job {
+    with_dummies(bars_and_fills(), 20, 60)
+}
+
+/// Wide gaps to drawn metal and narrower ones to dummies, each tile filled with
+/// all that they leave of it.
+fn gaps_that_differ() -> Job {
+    let mut job = with_dummies(wide_gaps(), 1200, 400);
+    job.fills = fast::fillable_areas(&job);
     job
 }
 
@@ -240,34 +276,47 @@ pub fn large_job(random: &mut Random) -> Vec<u8> {
         tile -= tile % 16;
     }
     let mut job = bare_job(tile, tiles, cut);
-    job.gap = random.pick(&[0, 1, 10, 100, 1000, 20_000]);
+    let gaps = [0, 1, 10, 100, 1000, 20_000];
+    job.gap = random.pick(&gaps);
+    job.dummy_gap = if random.one_in(2) {
+        job.gap
+    } else {
+        random.pick(&gaps)
+    };
     job.accuracy = random.pick(&[0, 0, 1, 10, 100, 1000]);
     job.levels = random.between(1, 6);
     job.lower = random.below(3000);
     job.upper = random.between(job.lower, 10_000);
-    job.rects = large_rects(random, job.size);
-    let share = random.pick(&[0, 10, 50, 100]);
-    job.fills = fast::fillable_areas(&job);
-    for amount in &mut job.fills {
-        *amount = if random.percent(share) {
-            random.below(*amount + 1)
-        } else {
-            0
-        };
-    }
+    let boxes = large_boxes(random, job.size);
+    job.shapes = of_random_kinds(random, boxes);
+    job.fills = large_fills(random, &fast::fillable_areas(&job));
     within_limit(&job)
 }
 
-fn large_rects(random: &mut Random, size: u64) -> Vec<[u64; 4]> {
+/// An amount for some of the tiles.
+fn large_fills(random: &mut Random, fillable: &[u64]) -> Vec<u64> {
+    let share = random.pick(&[0, 10, 50, 100]);
+    let mut amount = |&most: &u64| {
+        if random.percent(share) {
+            random.below(most + 1)
+        } else {
+            0
+        }
+    };
+    fillable.iter().map(&mut amount).collect()
+}
+
+/// Boxes for shapes, no two of which overlap.
+fn large_boxes(random: &mut Random, size: u64) -> Vec<[u64; 4]> {
     let across = random.between(1, 16);
-    let mut rects = match random.below(3) {
+    let mut boxes = match random.below(3) {
         0 => touching_grid(size, across),
         _ => grid_of_different_sides(random, size, across),
     };
     let share = random.pick(&[10, 60, 100]);
-    rects.retain(|_| random.percent(share));
-    random.shuffle(&mut rects);
-    rects
+    boxes.retain(|_| random.percent(share));
+    random.shuffle(&mut boxes);
+    boxes
 }
 
 fn touching_grid(size: u64, across: u64) -> Vec<[u64; 4]> {

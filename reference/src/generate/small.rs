@@ -1,9 +1,10 @@
 //! Random valid jobs whose layouts are small enough to count squares.
 
+use super::kinds::of_random_kinds;
 use super::line::{bytes_of, lines_of, Line};
 use super::random::Random;
 use crate::fast::{self, LoadSums};
-use crate::job::{overlap, Job, MOST_RECTS};
+use crate::job::{overlap, Job, GAP, MOST_SHAPES};
 use std::ops::Range;
 
 /// Longest side of a random small layout, but for those with long windows.
@@ -19,13 +20,8 @@ pub fn small_job(random: &mut Random) -> Vec<u8> {
 /// The lines of a random valid job, the fills in random order.
 pub fn small_lines(random: &mut Random) -> Vec<Line> {
     let mut job = bare_job(random);
-    job.gap = match random.below(8) {
-        0..=2 => 0,
-        3..=4 => 1,
-        5 => 2,
-        6 => random.between(3, LARGEST_SIDE),
-        _ => random.pick(&[27, 28, 1000, 65_535]),
-    };
+    job.gap = gap(random);
+    job.dummy_gap = dummy_gap(random, job.gap);
     job.accuracy = match random.below(6) {
         0..=2 => 0,
         3 => 1000,
@@ -33,13 +29,45 @@ pub fn small_lines(random: &mut Random) -> Vec<Line> {
         _ => random.between(1, 999),
     };
     job.levels = random.between(1, 6).max(random.between(1, 6));
-    job.rects = rects(random, job.size);
+    let boxes = boxes(random, job.size);
+    job.shapes = of_random_kinds(random, boxes);
     job.fills = fills(random, &fast::fillable_areas(&job));
     choose_bounds(random, &mut job);
     let mut lines = lines_of(&job);
-    let fills = 1 + job.rects.len()..lines.len() - 1;
+    let fills = 1 + job.shapes.len()..lines.len() - 1;
     random.shuffle(&mut lines[fills]);
+    if random.one_in(4) {
+        state_dummy_gap(&mut lines[0], job.dummy_gap);
+    }
     lines
+}
+
+fn gap(random: &mut Random) -> u64 {
+    match random.below(8) {
+        0..=2 => 0,
+        3..=4 => 1,
+        5 => 2,
+        6 => random.between(3, LARGEST_SIDE),
+        _ => random.pick(&[27, 28, 1000, 65_535]),
+    }
+}
+
+/// A dummy gap: half of the times the gap itself, else often one so near that
+/// few squares tell the two apart.
+fn dummy_gap(random: &mut Random, gap_to_drawn: u64) -> u64 {
+    match random.below(6) {
+        0..=2 => gap_to_drawn,
+        3 => (gap_to_drawn + random.between(1, 2)).min(GAP.1),
+        4 => gap_to_drawn.saturating_sub(random.between(1, 2)),
+        _ => gap(random),
+    }
+}
+
+/// Spells the head with both gaps, also where one would do.
+fn state_dummy_gap(head: &mut Line, dummy_gap: u64) {
+    if let Line::Head(_, stated) = head {
+        *stated = Some(dummy_gap);
+    }
 }
 
 /// A job with size, window and cut alone.
@@ -72,9 +100,10 @@ fn halving_window(random: &mut Random, longest: u64) -> (u64, u64) {
     (window / cut, cut)
 }
 
-fn rects(random: &mut Random, size: u64) -> Vec<[u64; 4]> {
+/// Boxes for shapes, no two of which overlap.
+fn boxes(random: &mut Random, size: u64) -> Vec<[u64; 4]> {
     let whole = [0, 0, size, size];
-    let mut rects = match random.below(10) {
+    let mut boxes = match random.below(10) {
         0 => Vec::new(),
         1 => vec![whole],
         2 => far_from_origin(random, size),
@@ -87,28 +116,28 @@ fn rects(random: &mut Random, size: u64) -> Vec<[u64; 4]> {
             pieces
         }
     };
-    random.shuffle(&mut rects);
-    rects.truncate(MOST_RECTS);
-    rects
+    random.shuffle(&mut boxes);
+    boxes.truncate(MOST_SHAPES);
+    boxes
 }
 
-/// Rectangles dropped at random, those that overlap left out.
+/// Boxes dropped at random, those that overlap left out.
 fn scattered(random: &mut Random, size: u64) -> Vec<[u64; 4]> {
-    let mut rects: Vec<[u64; 4]> = Vec::new();
+    let mut boxes: Vec<[u64; 4]> = Vec::new();
     let longest = random.between(1, size);
     for _ in 0..random.between(1, 20) {
         let (x, y) = (random.below(size), random.below(size));
         let width = random.between(1, longest.min(size - x));
         let height = random.between(1, longest.min(size - y));
-        let rect = [x, y, x + width, y + height];
-        if !rects.iter().any(|other| overlap(other, &rect)) {
-            rects.push(rect);
+        let dropped = [x, y, x + width, y + height];
+        if !boxes.iter().any(|other| overlap(other, &dropped)) {
+            boxes.push(dropped);
         }
     }
-    rects
+    boxes
 }
 
-/// One small rectangle, where the starts of early levels often miss it.
+/// One small box, where the starts of early levels often miss it.
 fn far_from_origin(random: &mut Random, size: u64) -> Vec<[u64; 4]> {
     let mut corner = || size - 1 - random.below(size).min(random.below(size));
     let (x, y) = (corner(), corner());
@@ -195,6 +224,6 @@ fn aimed_lower(random: &mut Random, job: &Job) -> u64 {
 /// Loads of the windows at all tile starts; on each axis a window has these
 /// places counted from the start, as far as there are tiles.
 fn window_loads(job: &Job, places: Range<usize>) -> impl Iterator<Item = u64> {
-    let sums = LoadSums::new(job, &fast::drawn_cover(job));
+    let sums = LoadSums::new(job, &fast::metal_cover(job));
     fast::tile_starts(job).map(move |start| sums.window(start, &places))
 }
