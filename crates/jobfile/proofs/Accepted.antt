@@ -8,7 +8,7 @@ use native.Mathlib.Omega.{arith}
 use lib.ListN.{length, getD, take, replicate, length-map, List·getD-eq-default}
 use lib.Seq.{take-at}
 use Rattle.laws.proofs.Tests.{le-or-lt}
-use Rattle.geometry.specs.Layout.{Layer}
+use Rattle.geometry.specs.Layout.{Disjoint, Layer}
 use Rattle.fill.specs.Judge.{numberAt}
 use Rattle.fill.proofs.Loads.{tile-fillable}
 use Rattle.jobfile.specs.declared.Form.{Form}
@@ -28,6 +28,7 @@ use Rattle.jobfile.proofs.Files.{acceptance}
 pub record AcceptedFacts (st : Standing) : Type 0 where
   pub head : HeadFacts (st .head)
   pub few : length (st .shapes) ≤ unitLimits .shapes
+  pub apart : Disjoint (rectangles (st .shapes))
   pub layer : Layer (tableOf (rectangles (st .shapes)))
   pub sized : length (st .amounts) ≡ tileCount (st .head)
   pub fillable : (i j : ℕ) → i < tilesAcross (st .head) → j < tilesAcross (st .head) →
@@ -46,6 +47,7 @@ accepted-facts file st e =
     record {
       head = head-facts (st .head) (s .headed headed);
       few = s .few;
+      apart = s .apart;
       layer = table-layer (st .head) (rectangles (st .shapes)) (s .good) (s .apart) (omega (arith, length-map (st .shapes) (λ t. t .rect), s .few));
       sized = s .sized;
       fillable = s .fillable;

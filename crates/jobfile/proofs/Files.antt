@@ -68,7 +68,7 @@ data Comes (m : Limits) (st : Standing) (k : ℕ) (s : List ℕ) : Outcome → T
   faults : {number line : ℕ} → FirstFault m st k s number line → Comes m st k s (refused number line)
 
 -- the pieces of a text that begins with a line
-pieces-first : (line s : List ℕ) → feedless line ≡ true → pieces (line ++ (10 ∷ s)) ≡ line ∷ pieces s
+pub pieces-first : (line s : List ℕ) → feedless line ≡ true → pieces (line ++ (10 ∷ s)) ≡ line ∷ pieces s
 unfolding pieces
 pieces-first [] s e = refl
 pieces-first (b ∷ line) s e = let k = feedless-first b line e in rw (k .0, pieces) (ap (inFront b) (pieces-first line s (k .1)))

@@ -48,14 +48,14 @@ first-piece (b ∷ s) = go (eqb b 10) refl (first-piece s)
     go false e p = record { first = b ∷ p .first; others = p .others; all = rw (e, pieces) (ap (inFront b) (p .all)) }
 
 -- what reading comes to after a line that has a line feed, the pieces after it given
-abbrev afterLine : Limits → Standing → ℕ → List ℕ → List (List ℕ) → Outcome
+abbrev pub afterLine : Limits → Standing → ℕ → List ℕ → List (List ℕ) → Outcome
 afterLine m st k line ps =
     elim (eqb (lineFault m st (formOf m line)) 0) [
       | true ↦ readLines m (standsAfter st (formOf m line)) (suc k) ps
       | false ↦ refused (lineFault m st (formOf m line)) k
     ]
 
-read-next : (m : Limits) (st : Standing) (k : ℕ) (line s : List ℕ) → readLines m st k (line ∷ pieces s) ≡ afterLine m st k line (pieces s)
+pub read-next : (m : Limits) (st : Standing) (k : ℕ) (line s : List ℕ) → readLines m st k (line ∷ pieces s) ≡ afterLine m st k line (pieces s)
 unfolding readLines
 read-next m st k line s = subst (λ (ps : List (List ℕ)). readLines m st k (line ∷ ps) ≡ afterLine m st k line ps) (sym (first-piece s .all)) refl
 

@@ -1,7 +1,8 @@
 -- Document 02, request 5: shapes are drawn metal or dummies from an earlier pass, and fill keeps a gap of its own from each kind. A `Shape`, of
 -- src/lib.rt, is a rectangle with its kind; a `Gap` is what the head says, (gap B) or (gap B D).
 use Prim.Native.Nat.{ℕ}
-use mathlib.Core.List.{List, map}
+use mathlib.Core.Bool.{Bool, true, false}
+use mathlib.Core.List.{List, [], _∷_, map}
 use Rattle.geometry.specs.declared.Rect.{Rect}
 use Rattle.fill.specs.declared.Keepout.{Keepout}
 use Rattle.jobfile.specs.declared.Gap.{Gap}
@@ -34,6 +35,17 @@ withGap h g =
 -- the rectangles of shapes of either kind: what areas, the shapes under a window and faults 8 and 9 go by
 abbrev pub rectangles : List Shape → List Rect
 rectangles ss = map (λ s. s .rect) ss
+
+-- the rectangles of the shapes of one kind
+abbrev pub isKind : Kind → Kind → Bool
+isKind Drawn Drawn = true
+isKind Drawn Dummy = false
+isKind Dummy Drawn = false
+isKind Dummy Dummy = true
+
+unfoldable pub rectanglesOf : Kind → List Shape → List Rect
+rectanglesOf k [] = []
+rectanglesOf k (s ∷ ss) = elim (isKind k (s .kind)) [ true ↦ s .rect ∷ rectanglesOf k ss | false ↦ rectanglesOf k ss ]
 
 -- a shape as fill sees it, with the gap of its kind; and all shapes
 abbrev pub keepoutOf : Gap → Shape → Keepout

@@ -32,6 +32,7 @@ facts-run : (st : Standing) → AcceptedFacts st → Runs st
 facts-run st f =
     let h = f .head in
     record {
+      apart = f .apart;
       some-window = h .window-least;
       window-fits = h .window-most;
       some-level = h .levels-least;

@@ -12,7 +12,7 @@ use Rattle.geometry.specs.declared.Rect.{Rect}
 use Rattle.geometry.specs.declared.Spot.{Spot}
 use Rattle.geometry.specs.declared.Sense.{Sense}
 use Rattle.geometry.specs.declared.Sense.the-variants.{Greatest, Least}
-use Rattle.geometry.specs.Layout.{windowBox}
+use Rattle.geometry.specs.Layout.{windowBox, Disjoint}
 use Rattle.geometry.proofs.Sharing.{no-shapes→no-area, no-area→no-shapes}
 use Rattle.geometry.proofs.Extremes.{not-better}
 use Rattle.extremes.specs.Exact.{extreme, extremeIn}
@@ -43,10 +43,12 @@ use Rattle.jobfile.specs.Shapes.{rectangles, keepouts}
 use Rattle.jobfile.specs.Forms.{tileSide, tilesAcross, planOf}
 use Rattle.jobfile.specs.Faults.{Standing, roomOf}
 use Rattle.unit.specs.Answering.{quickOf, answerFor, answerOf, quickIn}
+use Rattle.unit.proofs.Metal.{area-of-kinds, eligible-clear}
 use Rattle.unit.specs.Promise.{shapesAt, RealWindow, StartOf, EndsWith, ExactPromise, levelIn, BracketPromise, LevelPromise, QuickPromise, FillPromise, CountPromise, CountsPromise, DensityOff, DensityPromise, Promises}
 
--- what an accepted head and its amounts say: tiles fit the window and the layout, and no amount exceeds its tile's fillable area
+-- what an accepted job says: tiles fit the window and the layout, no two shapes share a unit square, and no amount exceeds its tile's fillable area
 pub record Runs (st : Standing) : Type 0 where
+  pub apart : Disjoint (rectangles (st .shapes))
   pub some-window : 1 ≤ st .head .window
   pub window-fits : st .head .window ≤ st .head .size
   pub some-level : 1 ≤ st .head .levels
@@ -277,6 +279,7 @@ fill-kept st k =
           record { across = corner-at i (s .column); down = corner-at j (s .row) };
       broken = λ b i j e chosen p c. broken-breaks ks rs amounts plan size whole chosen p b i j (number-broken v b i j e) .breaks c;
       placeable = some;
+      clear = λ chosen p x y c s a. eligible-clear (st .head .gap) a x y (p .allowed x y c);
     }
   where
     ks : List Keepout
@@ -308,7 +311,15 @@ fill-kept st k =
 
 pub promises-kept : (st : Standing) → Runs st → Promises st (answerOf st)
 unfolding answerFor
-promises-kept st k = record { exact = exact; quick = quick; counts = counts; density = density-kept st k; fill = fill-kept st k }
+promises-kept st k =
+    record {
+      metal = λ x y. area-of-kinds (st .shapes) (windowBox (st .head .window) x y) (k .apart);
+      exact = exact;
+      quick = quick;
+      counts = counts;
+      density = density-kept st k;
+      fill = fill-kept st k;
+    }
   where
     exact : (s : Sense) → ExactPromise s st (extremeIn s (answerOf st .exact))
     exact Greatest = exact-kept Greatest st

@@ -1,6 +1,7 @@
 pub mod Cases
 pub mod Length
 pub mod Rooms
+pub mod Metal
 pub mod Demand
 pub mod Running
 pub mod Accepting

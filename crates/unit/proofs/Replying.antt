@@ -22,14 +22,16 @@ use Rattle.jobfile.specs.Forms.{inRange, tilesAcross, agrees}
 use Rattle.jobfile.specs.Faults.{Standing, beforeHead, check, inTurn, fitsLayout, known, ownFault, shapeFault, roomOf, fillFault, lineFault}
 use Rattle.jobfile.specs.File.{Outcome, refused, accepted, outcomeOf}
 use Rattle.jobfile.specs.Acceptance.{spellingOf, formsText, LineFault, spelled, unspelled, FirstFault, faulty, unfed, unended, RefusedFile, long, lines}
+use Rattle.jobfile.specs.Acceptance.{SameButGap, both-refused, both-accepted}
 use Rattle.jobfile.proofs.Files.{acceptance}
+use Rattle.jobfile.proofs.Unused.{unused-gap}
 use Rattle.unit.specs.declared.Reply.{Reply}
 use Rattle.unit.specs.declared.Reply.the-variants.{Accepted, Refused}
 use Rattle.unit.specs.declared.render.Rendered.{Rendered}
-use Rattle.unit.specs.Answering.{answerOf, textOf}
+use Rattle.unit.specs.Answering.{answerFor, answerOf, textOf}
 use Rattle.unit.specs.Whole.{replyTo, bufferAfter, replyFor, bufferFor, replyNumber, replyValue, codeOf, printedOf, printedFor}
 use Rattle.unit.specs.Room.{answerRoom}
-use Rattle.unit.specs.Guarantee.{Guarantee, Reported}
+use Rattle.unit.specs.Guarantee.{Guarantee, Reported, UnusedGapPrinted}
 use Rattle.unit.specs.Rendering.{WrittenIn, asRendered, renderedIn, Rendering}
 use Rattle.unit.proofs.Accepting.{promised, refused-positive, found-accepted}
 
@@ -229,3 +231,13 @@ printed-refusal file before text d p bad after next w = go (outcomeOf unitLimits
               ∙ ap (λ (t : List ℕ). t ++ drop (length t) text) same
               ∙ ap (λ (l : List ℕ). refusal number line ++ drop (length (refusal number line)) l) (q .buffer);
         }
+
+-- ---- files that differ in D alone
+
+same-printed : {o o′ : Outcome} → SameButGap o o′ → printedOf o ≡ printedOf o′
+unfolding answerFor
+same-printed both-refused = refl
+same-printed (both-accepted g) = refl
+
+pub unused-gap-printed : UnusedGapPrinted
+unused-gap-printed h b d rest k n = same-printed (unused-gap unitLimits h b d rest k n)

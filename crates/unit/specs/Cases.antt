@@ -1,5 +1,5 @@
--- The cases: document 01's rows A1 to Z, those of document 02's requests and our own, for the least window, the shapes under a box and the density,
--- each stated beside its definitions, and files by their bytes with what is printed. proofs/Cases.antt shows that all of them follow.
+-- The cases: document 01's rows A1 to Z, those of document 02's requests and our own, for the least window, the shapes under a box, the density and
+-- dummies, each stated beside its definitions, and files by their bytes with what is printed. proofs/Cases.antt shows that all of them follow.
 use Prim.Native.Nat.{ℕ}
 use Prim.Native.String.{String}
 use mathlib.Core.List.{List, [], _∷_, _++_}
@@ -151,6 +151,75 @@ byteRows =
     ∷ "(density 938)"
     ∷ "(fill safe)"
     ∷ []))
+    ∷ row "a dummy is metal, under a head with D"
+    (prints "(job (size 8) (window 4) (cut 2) (gap 1 2) (bounds 0 5000) (zoom 0 6))\n(dummy 3 3 5 5)\n(fill 0 0 3)\n(end)\n")
+    (printedLines
+    ("(exact (max 4 1 1 1) (min 1 0 0 1))"
+    ∷ "(zoom met (levels 2) (floor 4 2 2 1) (ceiling 4) (kept 0))"
+    ∷ "(zoommin exact (levels 4) (low 1) (high 1 0 0 1) (kept 0))"
+    ∷ "(density 2500)"
+    ∷ "(fill safe)"
+    ∷ []))
+    ∷ row "one unit of fill more than D leaves"
+    (prints "(job (size 8) (window 4) (cut 2) (gap 1 2) (bounds 0 5000) (zoom 0 6))\n(dummy 3 3 5 5)\n(fill 0 0 4)\n")
+    (bytes "(refused 11 3)\n")
+    ∷ row "drawn metal has B, not D"
+    (prints "(job (size 8) (window 4) (cut 2) (gap 1 2) (bounds 0 5000) (zoom 0 6))\n(rect 3 3 5 5)\n(fill 0 0 4)\n(end)\n")
+    (printedLines
+    ("(exact (max 4 1 1 1) (min 1 0 0 1))"
+    ∷ "(zoom met (levels 2) (floor 4 2 2 1) (ceiling 4) (kept 0))"
+    ∷ "(zoommin exact (levels 4) (low 1) (high 1 0 0 1) (kept 0))"
+    ∷ "(density 2500)"
+    ∷ "(fill safe)"
+    ∷ []))
+    ∷ row "a greater B keeps fill from drawn metal"
+    (prints "(job (size 8) (window 4) (cut 2) (gap 2 1) (bounds 0 5000) (zoom 0 6))\n(rect 3 3 5 5)\n(fill 0 0 4)\n")
+    (bytes "(refused 11 3)\n")
+    ∷ row "D is B where the head has one gap"
+    (prints "(job (size 8) (window 4) (cut 2) (gap 1) (bounds 0 5000) (zoom 0 6))\n(dummy 3 3 5 5)\n(fill 1 1 1)\n")
+    (bytes "(refused 11 3)\n")
+    ∷ row "D of 0: all but what the dummy covers"
+    (prints "(job (size 8) (window 4) (cut 2) (gap 1 0) (bounds 0 5000) (zoom 0 6))\n(dummy 3 3 5 5)\n(fill 1 1 3)\n(end)\n")
+    (printedLines
+    ("(exact (max 4 1 1 1) (min 1 0 0 1))"
+    ∷ "(zoom met (levels 2) (floor 4 2 2 1) (ceiling 4) (kept 0))"
+    ∷ "(zoommin exact (levels 4) (low 1) (high 1 0 0 1) (kept 0))"
+    ∷ "(density 2500)"
+    ∷ "(fill safe)"
+    ∷ []))
+    ∷ row "D of 0: a covered square"
+    (prints "(job (size 8) (window 4) (cut 2) (gap 1 0) (bounds 0 5000) (zoom 0 6))\n(dummy 3 3 5 5)\n(fill 1 1 4)\n")
+    (bytes "(refused 11 3)\n")
+    ∷ row "both kinds in areas, counts and loads"
+    (prints "(job (size 8) (window 4) (cut 2) (gap 1 2) (bounds 0 5000) (zoom 0 6))\n(dummy 5 3 6 5)\n(rect 3 3 5 5)\n(dummy 1 1 3 3)\n(end)\n")
+    (printedLines
+    ("(exact (max 8 1 1 2) (min 1 0 4 1))"
+    ∷ "(zoom exact (levels 4) (floor 8 1 1 2) (ceiling 8) (kept 0))"
+    ∷ "(zoommin exact (levels 4) (low 1) (high 1 0 4 1) (kept 0))"
+    ∷ "(density 5000)"
+    ∷ "(fill undecided over 0 0)"
+    ∷ []))
+    ∷ row "a dummy on drawn metal"
+    (prints "(job (size 8) (window 4) (cut 2) (gap 1 2) (bounds 0 5000) (zoom 0 6))\n(rect 3 3 5 5)\n(dummy 4 4 6 6)\n")
+    (bytes "(refused 9 3)\n")
+    ∷ row "drawn metal on a dummy"
+    (prints "(job (size 8) (window 4) (cut 2) (gap 1 2) (bounds 0 5000) (zoom 0 6))\n(dummy 3 3 5 5)\n(rect 4 4 6 6)\n")
+    (bytes "(refused 9 3)\n")
+    ∷ row "a dummy past the layout"
+    (prints "(job (size 8) (window 4) (cut 2) (gap 1) (bounds 0 5000) (zoom 0 6))\n(dummy 3 3 9 5)\n")
+    (bytes "(refused 6 2)\n")
+    ∷ row "a dummy after a fill"
+    (prints "(job (size 8) (window 4) (cut 2) (gap 1) (bounds 0 5000) (zoom 0 6))\n(fill 0 0 1)\n(dummy 3 3 5 5)\n")
+    (bytes "(refused 4 3)\n")
+    ∷ row "a dummy with three corners"
+    (prints "(job (size 8) (window 4) (cut 2) (gap 1) (bounds 0 5000) (zoom 0 6))\n(dummy 3 3 5)\n")
+    (bytes "(refused 2 2)\n")
+    ∷ row "D out of its range"
+    (prints "(job (size 8) (window 4) (cut 2) (gap 1 65536) (bounds 0 5000) (zoom 0 6))\n")
+    (bytes "(refused 3 1)\n")
+    ∷ row "a head with D that disagrees"
+    (prints "(job (size 8) (window 9) (cut 9) (gap 1 65535) (bounds 0 5000) (zoom 0 6))\n")
+    (bytes "(refused 5 1)\n")
     ∷ row "broken under"
     (prints "(job (size 2) (window 1) (cut 1) (gap 0) (bounds 1 10000) (zoom 0 6))\n(fill 0 0 1)\n(end)\n")
     (printedLines

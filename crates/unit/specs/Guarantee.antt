@@ -1,4 +1,5 @@
--- Start here: what a buyer may rely on, for every file and every lent buffer. The contracts of src/lib.rt cite it, so it binds the code.
+-- Start here: what a buyer may rely on, for every file and every lent buffer. The contracts of src/lib.rt cite it, so it binds the code; the last
+-- definition compares two files, and proofs/Replying.antt proves it.
 --
 -- Determined by the definitions, but nothing more is promised of it: "undecided" says neither that the fill is safe nor that some placement
 -- breaks a bound, and the start that it names need not be the worst, nor need the one that "broken" names; kept counts starts and not windows,
@@ -7,12 +8,16 @@
 -- file there is its first fault and a buffer as it was. Time, stack and what the program reads and writes stand in no contract.
 use Prim.Native.Nat.{ℕ, _≤_, _<_}
 use mathlib.Core.Path.{_≡_}
+use mathlib.Core.Bool.{false}
 use mathlib.Core.List.{List}
 use lib.ListN.{length, take}
 use Rattle.buffers.specs.Written.{Front}
+use Rattle.spelling.specs.Text.{pieces}
+use Rattle.jobfile.specs.declared.Gap.the-variants.{Both, Each}
+use Rattle.jobfile.specs.declared.Head.{Head}
 use Rattle.jobfile.specs.Limits.{unitLimits}
 use Rattle.jobfile.specs.Faults.{Standing}
-use Rattle.jobfile.specs.Acceptance.{AcceptedFile, Acceptance}
+use Rattle.jobfile.specs.Acceptance.{AcceptedFile, Acceptance, someDummy, fileWith, MayBegin}
 use Rattle.unit.specs.declared.Reply.{Reply}
 use Rattle.unit.specs.Answering.{answerOf}
 use Rattle.unit.specs.Whole.{replyFor, bufferFor, replyNumber, replyValue, printedFor}
@@ -40,3 +45,8 @@ pub record Guarantee (file before : List ℕ) (r : Reply) (after : List ℕ) : T
 pub record Reported (file before : List ℕ) (n : ℕ) (after : List ℕ) : Type 0 where
   pub printed : Front before (printedFor file) after n
   pub promised : FilePromise file
+
+-- where no line is a dummy, D plays no part: under (gap B D) the same is printed as under (gap B)
+abbrev pub UnusedGapPrinted : Type 0
+UnusedGapPrinted = (h : Head) (b d : ℕ) (rest : List ℕ) → MayBegin unitLimits h b d rest → someDummy unitLimits (pieces rest) ≡ false →
+    printedFor (fileWith h (Both b) rest) ≡ printedFor (fileWith h (Each b d) rest)
