@@ -28,7 +28,7 @@ use Rattle.jobfile.specs.declared.Kind.the-variants.{Drawn, Dummy}
 use Rattle.jobfile.specs.Limits.{Limits}
 use Rattle.jobfile.specs.Shapes.{withGap}
 use Rattle.jobfile.specs.Forms.{oneGapPattern, twoGapsPattern, headPattern, rectPattern, dummyPattern, shapePattern, fillPattern, endPattern}
-use Rattle.jobfile.specs.Forms.{oneGapForm, twoGapsForm, shapeForm, fillForm, endForm, formIf, laterForm, bodyForm, formOf}
+use Rattle.jobfile.specs.Forms.{oneGapForm, twoGapsForm, shapeForm, fillForm, endForm, formIf, headForm, rareForm, formOf}
 use Rattle.jobfile.specs.Faults.{known}
 use Rattle.jobfile.specs.Acceptance.{numbersOf, spellingOf, Spells, feedless}
 
@@ -72,38 +72,32 @@ module _ (m : Limits) where
   as-form : (p line : List ℕ) (f : Form) → known f ≡ true → spellingOf f ≡ spell p (numbersOf f) → SpelledBy (m .digits) p line (numbersOf f) → Spells m line f
   as-form p line f e same k = record { is-known = e; spelling = k .spelling ∙ sym same; short = k .short }
 
-  -- the head's spelling and a shape's, by the gap and by the kind
-  one-gap-spelled : (line ns : List ℕ) → Spelled (m .digits) oneGapPattern line ns → SpelledAs line (oneGapForm ns)
-  unfolding spellingOf places bytes oneGapPattern
-  one-gap-spelled line ns k e = as-form oneGapPattern line (oneGapForm ns) refl refl (spelled-by (m .digits) oneGapPattern line ns 8 refl k)
-
-  two-gaps-spelled : (line ns : List ℕ) → Spelled (m .digits) twoGapsPattern line ns → SpelledAs line (twoGapsForm ns)
-  unfolding spellingOf places bytes twoGapsPattern
-  two-gaps-spelled line ns k e = as-form twoGapsPattern line (twoGapsForm ns) refl refl (spelled-by (m .digits) twoGapsPattern line ns 9 refl k)
-
-  later-spelled : (line : List ℕ) → SpelledAs line (laterForm m line)
-  unfolding spellingOf places bytes fillPattern endPattern
-  later-spelled line =
-      if-read (m .digits) fillPattern line fillForm _ (SpelledAs line)
-      (λ ns k e. as-form fillPattern line (fillForm ns) refl refl (spelled-by (m .digits) fillPattern line ns 3 refl k))
-      (if-read (m .digits) endPattern line endForm Unknown (SpelledAs line)
-      (λ ns k e. as-form endPattern line (endForm ns) refl refl (spelled-by (m .digits) endPattern line ns 0 refl k))
+  head-spelled : (line : List ℕ) → SpelledAs line (headForm m line)
+  unfolding spellingOf places bytes oneGapPattern twoGapsPattern
+  head-spelled line =
+      if-read (m .digits) oneGapPattern line oneGapForm _ (SpelledAs line)
+      (λ ns k e. as-form oneGapPattern line (oneGapForm ns) refl refl (spelled-by (m .digits) oneGapPattern line ns 8 refl k))
+      (if-read (m .digits) twoGapsPattern line twoGapsForm Unknown (SpelledAs line)
+      (λ ns k e. as-form twoGapsPattern line (twoGapsForm ns) refl refl (spelled-by (m .digits) twoGapsPattern line ns 9 refl k))
       (λ e. absurd (false≢true e)))
 
-  body-spelled : (line : List ℕ) → SpelledAs line (bodyForm m line)
-  unfolding spellingOf places bytes rectPattern dummyPattern
-  body-spelled line =
-      if-read (m .digits) rectPattern line (shapeForm Drawn) _ (SpelledAs line)
-      (λ ns k e. as-form rectPattern line (shapeForm Drawn ns) refl refl (spelled-by (m .digits) rectPattern line ns 4 refl k))
-      (if-read (m .digits) dummyPattern line (shapeForm Dummy) _ (SpelledAs line)
+  rare-spelled : (line : List ℕ) → SpelledAs line (rareForm m line)
+  unfolding spellingOf places bytes dummyPattern endPattern
+  rare-spelled line =
+      if-read (m .digits) dummyPattern line (shapeForm Dummy) _ (SpelledAs line)
       (λ ns k e. as-form dummyPattern line (shapeForm Dummy ns) refl refl (spelled-by (m .digits) dummyPattern line ns 4 refl k))
-      (later-spelled line))
+      (if-read (m .digits) endPattern line endForm _ (SpelledAs line)
+      (λ ns k e. as-form endPattern line (endForm ns) refl refl (spelled-by (m .digits) endPattern line ns 0 refl k))
+      (head-spelled line))
 
   pub form-spelled : (line : List ℕ) → known (formOf m line) ≡ true → Spells m line (formOf m line)
-  unfolding formOf
+  unfolding formOf spellingOf places bytes fillPattern rectPattern
   form-spelled line =
-      if-read (m .digits) oneGapPattern line oneGapForm _ (SpelledAs line) (one-gap-spelled line)
-      (if-read (m .digits) twoGapsPattern line twoGapsForm _ (SpelledAs line) (two-gaps-spelled line) (body-spelled line))
+      if-read (m .digits) fillPattern line fillForm _ (SpelledAs line)
+      (λ ns k e. as-form fillPattern line (fillForm ns) refl refl (spelled-by (m .digits) fillPattern line ns 3 refl k))
+      (if-read (m .digits) rectPattern line (shapeForm Drawn) _ (SpelledAs line)
+      (λ ns k e. as-form rectPattern line (shapeForm Drawn ns) refl refl (spelled-by (m .digits) rectPattern line ns 4 refl k))
+      (rare-spelled line))
 
 -- ---- what is spelled so is read
 
@@ -111,54 +105,60 @@ module _ (m : Limits) where
   abbrev Short : Form → Type 0
   Short f = EachShort (m .digits) (numbersOf f)
 
-  -- by the gaps of a head, and by the kind of a shape
+  -- a spelling of another pattern is not read by this one
+  abbrev missed : (p q : List ℕ) (f : Form) → clash p q ≡ true → length (numbersOf f) ≡ places q → Short f → readAs (m .digits) p (spell q (numbersOf f)) ≡ none
+  missed p q f e l s = clash-none (m .digits) p q (numbersOf f) e l s
+
+  abbrev found : (p : List ℕ) (f : Form) → wellFormed p ≡ true → length (numbersOf f) ≡ places p → Short f →
+      readAs (m .digits) p (spell p (numbersOf f)) ≡ some (numbersOf f)
+  found p f w l s = spelled-is-read (m .digits) p (numbersOf f) w l s
+
+  -- a head's spelling, by its gaps
   heading-read : (h : Head) (g : Gap) → Short (Heading (withGap h g)) → formOf m (spellingOf (Heading (withGap h g))) ≡ Heading (withGap h g)
-  unfolding formOf spellingOf clash places wellFormed bytes oneGapPattern twoGapsPattern
-  heading-read h (Both b) s = rw (spelled-is-read (m .digits) oneGapPattern (numbersOf (Heading (withGap h (Both b)))) refl refl s)
-  heading-read h (Each b d) s =
+  unfolding formOf spellingOf clash places wellFormed bytes oneGapPattern twoGapsPattern rectPattern dummyPattern fillPattern endPattern
+  heading-read h (Both b) s =
+      let f = Heading (withGap h (Both b)) in
       rw (
-        clash-none (m .digits) oneGapPattern twoGapsPattern (numbersOf (Heading (withGap h (Each b d)))) refl refl s,
-        spelled-is-read (m .digits) twoGapsPattern (numbersOf (Heading (withGap h (Each b d)))) refl refl s,
+        missed fillPattern oneGapPattern f refl refl s,
+        missed rectPattern oneGapPattern f refl refl s,
+        missed dummyPattern oneGapPattern f refl refl s,
+        missed endPattern oneGapPattern f refl refl s,
+        found oneGapPattern f refl refl s,
+      )
+  heading-read h (Each b d) s =
+      let f = Heading (withGap h (Each b d)) in
+      rw (
+        missed fillPattern twoGapsPattern f refl refl s,
+        missed rectPattern twoGapsPattern f refl refl s,
+        missed dummyPattern twoGapsPattern f refl refl s,
+        missed endPattern twoGapsPattern f refl refl s,
+        missed oneGapPattern twoGapsPattern f refl refl s,
+        found twoGapsPattern f refl refl s,
       )
 
+  -- a shape's, by its kind
   shape-read : (k : Kind) (r : Rect) → Short (Metal (record { kind = k; rect = r })) →
       formOf m (spellingOf (Metal (record { kind = k; rect = r }))) ≡ Metal (record { kind = k; rect = r })
-  unfolding formOf spellingOf clash places wellFormed bytes oneGapPattern twoGapsPattern rectPattern dummyPattern
+  unfolding formOf spellingOf clash places wellFormed bytes rectPattern dummyPattern fillPattern
   shape-read Drawn r s =
-      rw (
-        clash-none (m .digits) oneGapPattern rectPattern (numbersOf (Metal (record { kind = Drawn; rect = r }))) refl refl s,
-        clash-none (m .digits) twoGapsPattern rectPattern (numbersOf (Metal (record { kind = Drawn; rect = r }))) refl refl s,
-        spelled-is-read (m .digits) rectPattern (numbersOf (Metal (record { kind = Drawn; rect = r }))) refl refl s,
-      )
+      let f = Metal (record { kind = Drawn; rect = r }) in
+      rw (missed fillPattern rectPattern f refl refl s, found rectPattern f refl refl s)
   shape-read Dummy r s =
-      rw (
-        clash-none (m .digits) oneGapPattern dummyPattern (numbersOf (Metal (record { kind = Dummy; rect = r }))) refl refl s,
-        clash-none (m .digits) twoGapsPattern dummyPattern (numbersOf (Metal (record { kind = Dummy; rect = r }))) refl refl s,
-        clash-none (m .digits) rectPattern dummyPattern (numbersOf (Metal (record { kind = Dummy; rect = r }))) refl refl s,
-        spelled-is-read (m .digits) dummyPattern (numbersOf (Metal (record { kind = Dummy; rect = r }))) refl refl s,
-      )
+      let f = Metal (record { kind = Dummy; rect = r }) in
+      rw (missed fillPattern dummyPattern f refl refl s, missed rectPattern dummyPattern f refl refl s, found dummyPattern f refl refl s)
 
   pub spelling-read : (f : Form) → known f ≡ true → EachShort (m .digits) (numbersOf f) → formOf m (spellingOf f) ≡ f
-  unfolding formOf spellingOf clash places wellFormed bytes oneGapPattern twoGapsPattern rectPattern dummyPattern fillPattern endPattern
-  spelling-read Unknown k b = absurd (false≢true k)
-  spelling-read (Heading h) k b = heading-read h (h .gap) b
-  spelling-read (Metal s) k b = shape-read (s .kind) (s .rect) b
-  spelling-read (Fill i j p) k b =
+  unfolding formOf spellingOf clash places wellFormed bytes rectPattern dummyPattern fillPattern endPattern
+  spelling-read Unknown k s = absurd (false≢true k)
+  spelling-read (Heading h) k s = heading-read h (h .gap) s
+  spelling-read (Metal q) k s = shape-read (q .kind) (q .rect) s
+  spelling-read (Fill i j p) k s = rw (found fillPattern (Fill i j p) refl refl s)
+  spelling-read End k s =
       rw (
-        clash-none (m .digits) oneGapPattern fillPattern (numbersOf (Fill i j p)) refl refl b,
-        clash-none (m .digits) twoGapsPattern fillPattern (numbersOf (Fill i j p)) refl refl b,
-        clash-none (m .digits) rectPattern fillPattern (numbersOf (Fill i j p)) refl refl b,
-        clash-none (m .digits) dummyPattern fillPattern (numbersOf (Fill i j p)) refl refl b,
-        spelled-is-read (m .digits) fillPattern (numbersOf (Fill i j p)) refl refl b,
-      )
-  spelling-read End k b =
-      rw (
-        clash-none (m .digits) oneGapPattern endPattern [] refl refl b,
-        clash-none (m .digits) twoGapsPattern endPattern [] refl refl b,
-        clash-none (m .digits) rectPattern endPattern [] refl refl b,
-        clash-none (m .digits) dummyPattern endPattern [] refl refl b,
-        clash-none (m .digits) fillPattern endPattern [] refl refl b,
-        spelled-is-read (m .digits) endPattern [] refl refl b,
+        missed fillPattern endPattern End refl refl s,
+        missed rectPattern endPattern End refl refl s,
+        missed dummyPattern endPattern End refl refl s,
+        found endPattern End refl refl s,
       )
 
   pub spells-read : (line : List ℕ) (f : Form) → Spells m line f → formOf m line ≡ f

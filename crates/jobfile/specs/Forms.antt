@@ -133,16 +133,15 @@ abbrev pub formIf : Option (List ℕ) → (List ℕ → Form) → Form → Form
 formIf none form other = other
 formIf (some ns) form other = form ns
 
--- the form that a line spells, without its line feed: a fill or the end; a shape, or one of these; the head, or one of these
-abbrev pub laterForm : Limits → List ℕ → Form
-laterForm limits line = formIf (readAs (limits .digits) fillPattern line) fillForm (formIf (readAs (limits .digits) endPattern line) endForm Unknown)
+-- the form that a line spells, without its line feed. The patterns are tried in some order, and no line spells two of them: here the commonest first
+abbrev pub headForm : Limits → List ℕ → Form
+headForm limits line =
+    formIf (readAs (limits .digits) oneGapPattern line) oneGapForm (formIf (readAs (limits .digits) twoGapsPattern line) twoGapsForm Unknown)
 
-abbrev pub bodyForm : Limits → List ℕ → Form
-bodyForm limits line =
-    formIf (readAs (limits .digits) rectPattern line) (shapeForm Drawn)
-    (formIf (readAs (limits .digits) dummyPattern line) (shapeForm Dummy) (laterForm limits line))
+abbrev pub rareForm : Limits → List ℕ → Form
+rareForm limits line =
+    formIf (readAs (limits .digits) dummyPattern line) (shapeForm Dummy) (formIf (readAs (limits .digits) endPattern line) endForm (headForm limits line))
 
 unfoldable pub formOf : Limits → List ℕ → Form
 formOf limits line =
-    formIf (readAs (limits .digits) oneGapPattern line) oneGapForm
-    (formIf (readAs (limits .digits) twoGapsPattern line) twoGapsForm (bodyForm limits line))
+    formIf (readAs (limits .digits) fillPattern line) fillForm (formIf (readAs (limits .digits) rectPattern line) (shapeForm Drawn) (rareForm limits line))

@@ -21,7 +21,7 @@ ghost use Prim.Native.Nat.{_+_, _*_, _/_, _%_, _≤_, _<_};
 ghost use lib.Dec.{leb, eqb};
 ghost use Rattle.spelling.specs.Scanning.{mostValues};
 ghost use Rattle.jobfile.specs.Limits.{unitLimits};
-ghost use Rattle.jobfile.specs.Forms.{headBy, oneGapForm, twoGapsForm, shapeForm, fillForm, laterForm, bodyForm, formOf, inSpan, gapInRange, headInRange, rectInRange, fillInRange, inRange, tileSide, tilesAcross, planOf, agrees};
+ghost use Rattle.jobfile.specs.Forms.{headBy, oneGapForm, twoGapsForm, shapeForm, fillForm, headForm, rareForm, formOf, inSpan, gapInRange, headInRange, rectInRange, fillInRange, inRange, tileSide, tilesAcross, planOf, agrees};
 
 // The head by a spelling's numbers before the gaps, the gaps, and its numbers from
 // place i on, behind them.
@@ -76,41 +76,9 @@ fn fill_form(v: [u64; MOST_VALUES]) -> Form
     }
 }
 
-// The form of a line that is no head and no shape.
-fn later_form(line: &[u8]) -> Form
-    ensures { λ r. ⌜ r ≡ laterForm unitLimits (now (line .entry)) ⌝ }
-{
-    let fill = read_as(line, b"(fill # # #)", MOST_DIGITS);
-    if fill.ok {
-        let v = fill.values;
-        return fill_form(v);
-    }
-    if read_as(line, b"(end)", MOST_DIGITS).ok {
-        return Form::End;
-    }
-    Form::Unknown
-}
-
-// The form of a line that is no head.
-fn body_form(line: &[u8]) -> Form
-    ensures { λ r. ⌜ r ≡ bodyForm unitLimits (now (line .entry)) ⌝ }
-{
-    let rect = read_as(line, b"(rect # # # #)", MOST_DIGITS);
-    if rect.ok {
-        let v = rect.values;
-        return shape_form(Kind::Drawn, v);
-    }
-    let dummy = read_as(line, b"(dummy # # # #)", MOST_DIGITS);
-    if dummy.ok {
-        let v = dummy.values;
-        return shape_form(Kind::Dummy, v);
-    }
-    later_form(line)
-}
-
-// The form that a line spells, without its line feed.
-pub(crate) fn form_of(line: &[u8]) -> Form
-    ensures { λ r. ⌜ r ≡ formOf unitLimits (now (line .entry)) ⌝ }
+// The form of a line that is a head, if it is any.
+fn head_form(line: &[u8]) -> Form
+    ensures { λ r. ⌜ r ≡ headForm unitLimits (now (line .entry)) ⌝ }
 {
     let one = read_as(
         line,
@@ -130,7 +98,40 @@ pub(crate) fn form_of(line: &[u8]) -> Form
         let v = two.values;
         return two_gaps_form(v);
     }
-    body_form(line)
+    Form::Unknown
+}
+
+// The form of a line that is no fill and no drawn metal.
+fn rare_form(line: &[u8]) -> Form
+    ensures { λ r. ⌜ r ≡ rareForm unitLimits (now (line .entry)) ⌝ }
+{
+    let dummy = read_as(line, b"(dummy # # # #)", MOST_DIGITS);
+    if dummy.ok {
+        let v = dummy.values;
+        return shape_form(Kind::Dummy, v);
+    }
+    if read_as(line, b"(end)", MOST_DIGITS).ok {
+        return Form::End;
+    }
+    head_form(line)
+}
+
+// The form that a line spells, without its line feed. Most lines of a long file
+// are fills, so these are tried first.
+pub(crate) fn form_of(line: &[u8]) -> Form
+    ensures { λ r. ⌜ r ≡ formOf unitLimits (now (line .entry)) ⌝ }
+{
+    let fill = read_as(line, b"(fill # # #)", MOST_DIGITS);
+    if fill.ok {
+        let v = fill.values;
+        return fill_form(v);
+    }
+    let rect = read_as(line, b"(rect # # # #)", MOST_DIGITS);
+    if rect.ok {
+        let v = rect.values;
+        return shape_form(Kind::Drawn, v);
+    }
+    rare_form(line)
 }
 
 fn in_span(lo: u64, hi: u64, n: u64) -> bool
