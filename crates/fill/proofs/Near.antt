@@ -2,12 +2,12 @@
 use Prim.Native.Nat.{ℕ, _+_, _-_, _*_, _≤_, _<_}
 use mathlib.Core.Path.{_≡_, refl, sym, ap, _∙_}
 use mathlib.Core.Bool.{Bool, true, false, not, _||_}
-use mathlib.Core.List.{List, [], _∷_, _++_}
+use mathlib.Core.List.{List, _++_}
 use mathlib.Core.Logic.{_⊎_, inl, inr}
 use native.Mathlib.Nat.{sub-zero}
 use native.Mathlib.Omega.{arith}
-use lib.ListN.{length, getD, take, drop, length-take, length-drop, take-append-drop, List·getD-eq-default}
-use lib.Seq.{take-length, length-take-le, getD-take, getD-drop, drop-drop}
+use lib.ListN.{length, take, drop, length-drop, take-append-drop}
+use lib.Seq.{take-length, length-take-le, drop-drop}
 use borrow.Author.Tests.{lt-ltb}
 use Rattle.laws.proofs.Tests.{le-or-lt, true-false}
 use Rattle.geometry.specs.declared.Rect.{Rect}
@@ -17,7 +17,7 @@ use Rattle.geometry.specs.Overlaps.{rectAt}
 use Rattle.geometry.proofs.Counting.{box-cong}
 use Rattle.geometry.proofs.Tables.{rects-next, rects-end, rects-append, covered-append}
 use Rattle.fill.specs.declared.Part.{Part}
-use Rattle.fill.specs.Free.{freeFrom, isNear, heldFrom, Skipped, LastNear, partOf, Serves}
+use Rattle.fill.specs.Free.{freeFrom, freeIn, isNear, heldFrom, Skipped, LastNear, partOf, Serves}
 use Rattle.fill.proofs.Grown.{not-left, not-right, not-below, not-above}
 
 -- ---- one region
@@ -145,7 +145,7 @@ all-serves t b =
     record {
       order = omega arith;
       within = omega arith;
-      same = λ c left low right high. ap (λ (l : List ℕ). freeFrom l 0 c) (ap (λ (k : ℕ). take k t) (sub-zero (length t)) ∙ take-length t);
+      same = λ c left low right high. ap (λ (l : List ℕ). freeIn l c) (ap (λ (k : ℕ). take k t) (sub-zero (length t)) ∙ take-length t);
     }
 
 pub serves-inside : (t : List ℕ) (b c : Rect) (p : Part) → Serves t b p → b .x1 ≤ c .x1 → b .y1 ≤ c .y1 → c .x2 ≤ b .x2 → c .y2 ≤ b .y2 → Serves t c p
@@ -154,5 +154,5 @@ serves-inside t b c p s left low right high =
 
 -- ---- what is counted by a part
 
-pub part-counts : (t : List ℕ) (b : Rect) (p : Part) (r : ℕ) → Serves t b p → r ≡ freeFrom (partOf p t) 0 b → r ≡ freeFrom t 0 b
+pub part-counts : (t : List ℕ) (b : Rect) (p : Part) (r : ℕ) → Serves t b p → r ≡ freeIn (partOf p t) b → r ≡ freeIn t b
 part-counts t b p r s e = e ∙ s .same b (omega arith) (omega arith) (omega arith) (omega arith)

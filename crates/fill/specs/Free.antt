@@ -8,9 +8,10 @@ use lib.Dec.{leb, ltb}
 use lib.ListN.{length, take, drop}
 use Rattle.geometry.specs.declared.Rect.{Rect}
 use Rattle.geometry.specs.Count.{one-if, boxSum}
-use Rattle.geometry.specs.Layout.{covered, rectsOf}
+use Rattle.geometry.specs.Layout.{covered, rectsOf, withRect}
 use Rattle.fill.specs.declared.Keepout.{Keepout}
 use Rattle.fill.specs.declared.Part.{Part}
+use Rattle.fill.specs.Eligible.{fillableArea}
 
 -- the region that a shape keeps free of fill: its rectangle grown by its gap on all sides, cut off at 0
 abbrev pub regionOf : Keepout → Rect
@@ -20,17 +21,27 @@ regionOf k =
 abbrev pub regionsOf : List Keepout → List Rect
 regionsOf ks = map regionOf ks
 
--- a table holds the regions of shapes, four numbers each
+-- how many numbers of a table a region takes: its corners
+abbrev pub regionNumbers : ℕ
+regionNumbers = 4
+
+-- a table holds the regions of shapes; and with the region of one more behind n of them
 abbrev pub Regions : (table : List ℕ) → List Keepout → Type 0
 Regions table ks = rectsOf table ≡ regionsOf ks
+
+abbrev pub withRegion : List ℕ → ℕ → Keepout → List ℕ
+withRegion table n k = withRect table n (regionOf k)
 
 -- the squares of a box that no rectangle covers
 abbrev pub freeArea : List Rect → Rect → ℕ
 freeArea rs b = boxSum b (λ x y. one-if (not (covered rs x y)))
 
--- the squares of a box that no region from place i of a table on holds
+-- the squares of a box that no region from place i of a table on holds, and that none of the table does
 abbrev pub freeFrom : (table : List ℕ) (i : ℕ) → Rect → ℕ
 freeFrom table i b = freeArea (rectsOf (drop i table)) b
+
+abbrev pub freeIn : (table : List ℕ) → Rect → ℕ
+freeIn table b = freeFrom table 0 b
 
 abbrev pub isEmpty : Rect → Bool
 isEmpty b = leb (b .x2) (b .x1) || leb (b .y2) (b .y1)
@@ -95,4 +106,8 @@ partOf p table = take (p .to - p .from) (drop (p .from) table)
 pub record Serves (table : List ℕ) (b : Rect) (p : Part) : Type 0 where
   pub order : p .from ≤ p .to
   pub within : p .to ≤ length table
-  pub same : (c : Rect) → b .x1 ≤ c .x1 → b .y1 ≤ c .y1 → c .x2 ≤ b .x2 → c .y2 ≤ b .y2 → freeFrom (partOf p table) 0 c ≡ freeFrom table 0 c
+  pub same : (c : Rect) → b .x1 ≤ c .x1 → b .y1 ≤ c .y1 → c .x2 ≤ b .x2 → c .y2 ≤ b .y2 → freeIn (partOf p table) c ≡ freeIn table c
+
+-- a number is the fillable area of a box, where the table has the regions of shapes
+abbrev pub Fillable : (table : List ℕ) → Rect → ℕ → Type 0
+Fillable table b r = (ks : List Keepout) → Regions table ks → r ≡ fillableArea ks b

@@ -7,7 +7,7 @@ ghost use Rattle.geometry.specs.Sizes.{widest};
 ghost use Rattle.geometry.specs.Layout.{rectsOf};
 ghost use Rattle.sweep.specs.Strips.{Swept};
 ghost use Rattle.fill.specs.Eligible.{tile};
-ghost use Rattle.fill.specs.Free.{freeFrom, Serves};
+ghost use Rattle.fill.specs.Free.{freeIn, Serves, Fillable};
 ghost use Rattle.fill.specs.Judge.{verdictOf};
 ghost use Rattle.fill.specs.Sizes.{SmallBox, Planned};
 
@@ -17,6 +17,7 @@ mod judging;
 mod regions;
 mod tiling;
 
+pub use regions::REGION_NUMBERS;
 pub use regions::keep_out;
 
 // How many tiles may lie across a layout, and the numbers of a table with one for
@@ -77,12 +78,13 @@ pub fn tile_box(side: u64, i: u64, j: u64) -> Rect
 }
 
 // The squares of a box, such as a tile, that no region of a table holds, by a part
-// of the table that is enough for the box. By the regions of a job's shapes it is
-// the fillable area.
+// of the table that is enough for the box. Where the regions are those of shapes,
+// it is the fillable area.
 pub fn fillable(regions: &[u64], near: Part, b: Rect) -> u64
     requires { ⌜ SmallBox b ⌝ }
     requires { ⌜ Serves (now regions) b near ⌝ }
-    ensures { λ r. ⌜ r ≡ freeFrom (now (regions .entry)) 0 b ⌝ }
+    ensures free { λ r. ⌜ r ≡ freeIn (now (regions .entry)) b ⌝ }
+    ensures eligible { λ r. ⌜ Fillable (now (regions .entry)) b r ⌝ }
 {
     let from = near.from;
     let to = near.to;

@@ -6,8 +6,7 @@ use geometry::store_rect;
 ghost use Prim.Native.Nat.{_+_, _-_, _*_, _≤_};
 ghost use mathlib.Core.Path.{_≡_};
 ghost use lib.ListN.{length};
-ghost use Rattle.geometry.specs.Layout.{withRect};
-ghost use Rattle.fill.specs.Free.{regionOf};
+ghost use Rattle.fill.specs.Free.{regionNumbers, regionOf, withRegion};
 ghost use Rattle.fill.specs.Sizes.{SmallKeepout};
 
 // The difference, 0 where it would be below.
@@ -30,11 +29,14 @@ fn region_of(k: Keepout) -> Rect
     }
 }
 
-// Stores the region of a shape behind so many of a table.
+// How many numbers of a table a region takes: its corners.
+pub const REGION_NUMBERS: usize = 4;
+
+// Stores the region of a shape behind the first `count` of a table.
 pub fn keep_out(regions: &mut [u64], count: usize, k: Keepout)
-    requires { ⌜ 4 * count + 4 ≤ length (now regions) ⌝ }
+    requires { ⌜ regionNumbers * count + regionNumbers ≤ length (now regions) ⌝ }
     requires { ⌜ SmallKeepout k ⌝ }
-    ensures { λ _. ⌜ now (regions .exit) ≡ withRect (now (regions .entry)) count (regionOf k) ⌝ }
+    ensures { λ _. ⌜ now (regions .exit) ≡ withRegion (now (regions .entry)) count k ⌝ }
 {
     store_rect(regions, count, region_of(k));
 }

@@ -94,7 +94,7 @@ pub fn window_box(w: u64, x: u64, y: u64) -> Rect
     }
 }
 
-// Stores a rectangle behind so many of a table.
+// Stores a rectangle behind the first `count` of a table.
 pub fn store_rect(table: &mut [u64], count: usize, r: Rect)
     requires { ⌜ 4 * count + 4 ≤ length (now table) ⌝ }
     ensures { λ _. ⌜ now (table .exit) ≡ withRect (now (table .entry)) count r ⌝ }
@@ -123,7 +123,7 @@ pub fn cover_of(rects: &[u64], b: Rect) -> Cover
     Cover { area, shapes }
 }
 
-// Whether a box shares a unit square with a rectangle. Shared edges and
+// Whether a box shares a unit square with a rectangle of a table. Shared edges and
 // corners are none.
 pub fn shares_square(rects: &[u64], b: Rect) -> bool
     requires { ⌜ Layer (now rects) ⌝ }

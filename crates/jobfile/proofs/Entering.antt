@@ -1,8 +1,8 @@
 -- A good line entered into the state and its tables: what they hold then is what stands after it.
-use Prim.Native.Nat.{ℕ, suc, _+_, _-_, _*_, _≤_, _<_}
+use Prim.Native.Nat.{ℕ, _+_, _-_, _*_, _≤_, _<_}
 use mathlib.Core.Path.{_≡_, refl, sym, ap, ap₂, _∙_, subst}
 use mathlib.Core.Bool.{true, false≢true}
-use mathlib.Core.List.{List, [], _∷_, _++_}
+use mathlib.Core.List.{List, [], _∷_, _++_, map-append}
 use native.Mathlib.Nat.{mul-le-mul, lt-of-lt-of-le, le-trans}
 use native.Mathlib.Numerals.{add-one}
 use native.Mathlib.Omega.{arith}
@@ -10,10 +10,10 @@ use lib.Dec.{lit<, lit≤}
 use lib.Arith.{digits-lt}
 use lib.ListN.{length, take, drop, set, length-append, length-set}
 use lib.Seq.{take-set-lt, drop-set-lt}
-use Rattle.geometry.specs.Layout.{rectsOf, withRect}
-use Rattle.geometry.proofs.Tables.{stored-length}
+use Rattle.geometry.specs.Layout.{rectsOf}
 use Rattle.fill.specs.Judge.{tileIndex}
-use Rattle.fill.specs.Free.{regionOf}
+use Rattle.fill.specs.Free.{regionNumbers, withRegion}
+use Rattle.fill.proofs.Grown.{regions-more, regions-length}
 use Rattle.jobfile.specs.declared.Head.{Head}
 use Rattle.jobfile.specs.declared.Near.{Near}
 use Rattle.jobfile.specs.declared.Near.the-variants.{NoRow}
@@ -24,23 +24,17 @@ use Rattle.jobfile.specs.declared.Form.the-variants.{Unknown, Heading, M
 use Rattle.jobfile.specs.declared.Turn.{Turn}
 use Rattle.jobfile.specs.declared.Turn.the-variants.{Before, Shapes, Fills, Done}
 use Rattle.jobfile.specs.Limits.{unitLimits}
-use Rattle.jobfile.specs.Shapes.{keepoutOf}
+use Rattle.jobfile.specs.Shapes.{keepoutOf, keepouts}
 use Rattle.jobfile.specs.Forms.{tilesAcross, agrees}
 use Rattle.jobfile.specs.Faults.{Standing, beforeHead, noHead, inTurn, roomOf, lineFault, standsAfter}
-use Rattle.jobfile.specs.Held.{cornersRoom, shapesRoom, amountsRoom, tileCount, shapesBy, shapesIn, tableOf, shapesTable, standing, GoodHead, Sound}
+use Rattle.jobfile.specs.Held.{shapesRoom, amountsRoom, tileCount, shapesBy, shapesIn, tableOf, shapesTable, standing}
 use Rattle.jobfile.specs.Held.{ShapesKept, AmountsKept, Held, Storable, withShape, Stored, TileIn, NearHeld, RegionsHeld, Entered}
-use Rattle.jobfile.proofs.Heads.{HeadFacts, head-facts, agreement}
-use Rattle.jobfile.proofs.Tables.{Corners, corners, zeros, take-zeros, drop-zeros}
-use Rattle.jobfile.proofs.ShapeTables.{table-length, in-table, stored-table, regions-more}
+use Rattle.jobfile.proofs.Heads.{head-facts, agreement}
+use Rattle.jobfile.proofs.Tables.{corners, zeros, take-zeros, drop-zeros}
+use Rattle.jobfile.proofs.ShapeTables.{table-length, in-table, stored-table}
 use Rattle.jobfile.proofs.Faultless.{check-passes, NoFault, no-fault, no-shape-fault, NoFillFault, no-fill-fault}
-use Rattle.jobfile.proofs.Sound.{after-head, sound-after}
+use Rattle.jobfile.proofs.Sound.{heading-turn, after-head, sound-after}
 use Rattle.jobfile.proofs.Faulting.{regions-held}
-
-heading-turn : (t : Turn) (h : Head) → inTurn t (Heading h) ≡ true → t ≡ Before
-heading-turn Before h e = refl
-heading-turn Shapes h e = absurd (false≢true e)
-heading-turn Fills h e = absurd (false≢true e)
-heading-turn Done h e = absurd (false≢true e)
 
 -- a good head has no more tiles across than are allowed, so the table of amounts has room for all
 pub few-across : (h : Head) → agrees unitLimits h ≡ true → tilesAcross h ≤ unitLimits .tiles
@@ -50,11 +44,11 @@ pub few-tiles : (h : Head) → agrees unitLimits h ≡ true → tileCount h ≤ 
 few-tiles h e = mul-le-mul (few-across h e) (few-across h e)
 
 -- before the head the tables are all 0
-record Empty (shapes regions amounts : List ℕ) : Type 0 where
+record Empty (shapes amounts : List ℕ) : Type 0 where
   pub shapes-zero : shapes ≡ zeros shapesRoom
   pub amounts-zero : amounts ≡ zeros amountsRoom
 
-empty-before : (s : State) (shapes regions amounts : List ℕ) → Held s shapes regions amounts → s .turn ≡ Before → Empty shapes regions amounts
+empty-before : (s : State) (shapes regions amounts : List ℕ) → Held s shapes regions amounts → s .turn ≡ Before → Empty shapes amounts
 unfolding tableOf
 empty-before s shapes regions amounts k e =
     record {
@@ -71,7 +65,7 @@ empty-before s shapes regions amounts k e =
 -- the state and its tables hold a line's outcome where the tables are clean and what stands is what stands after the line
 entered : (s : State) (shapes regions amounts : List ℕ) (f : Form) (s′ : State) (shapes′ regions′ amounts′ : List ℕ) → Held s shapes regions amounts →
     lineFault unitLimits (standing s shapes amounts) f ≡ 0 → standing s′ shapes′ amounts′ ≡ standsAfter (standing s shapes amounts) f →
-    ShapesKept (s′ .head) (s′ .count) shapes′ regions′ → AmountsKept (s′ .head) amounts′ → NearHeld (s′ .head) (take (4 * s′ .count) regions′) (s′ .near) →
+    ShapesKept (s′ .head) (s′ .count) shapes′ regions′ → AmountsKept (s′ .head) amounts′ → NearHeld (s′ .head) (take (regionNumbers * s′ .count) regions′) (s′ .near) →
     Entered s shapes amounts f s′ shapes′ regions′ amounts′
 entered s shapes regions amounts f s′ shapes′ regions′ amounts′ k e same shaped filled near =
     record {
@@ -100,7 +94,7 @@ module _ (s : State) (shapes regions amounts : List ℕ) (k : Held s shapes regi
       few : tileCount h ≤ amountsRoom
       few = few-tiles h (check-passes (agrees unitLimits h) 5 0 (lit< tt) (g .own) .0)
 
-      z : Empty shapes regions amounts
+      z : Empty shapes amounts
       z = empty-before s shapes regions amounts k (heading-turn (s .turn) h (g .turn))
 
       clean : take (tileCount h) amounts ≡ zeros (tileCount h)
@@ -148,9 +142,9 @@ module _ (s : State) (shapes regions amounts : List ℕ) (k : Held s shapes regi
         headed = after-head (s .turn) (Metal m) (g .turn) (λ h q. let z : _≡_ {A = ℕ} 0 1 = cc in omega arith)
 
     abbrev regions-with : List ℕ
-    regions-with = withRect regions (s .count) (regionOf (keepoutOf (s .head .gap) m))
+    regions-with = withRegion regions (s .count) (keepoutOf (s .head .gap) m)
 
-    space : 4 * s .count + 4 ≤ length regions
+    space : regionNumbers * s .count + regionNumbers ≤ length regions
     space = omega (arith, storable .more, k .shaped .room)
 
     on-shape : Entered s shapes amounts (Metal m) (record { turn = Shapes; head = s .head; count = s .count + 1; near = NoRow }) (withShape shapes (s .count) m) regions-with amounts
@@ -162,8 +156,8 @@ module _ (s : State) (shapes regions amounts : List ℕ) (k : Held s shapes regi
           table = more-table ∙ ap shapesTable (sym more-shapes);
           counted = ap length more-shapes ∙ sym more-count;
           few = omega (arith, storable .more);
-          room = stored-length regions (s .count) (regionOf (keepoutOf (s .head .gap) m)) space ∙ k .shaped .room;
-          kept = rw (more-shapes, add-one (s .count)) (regions-more (s .head .gap) before m regions (s .count) space (k .shaped .kept));
+          room = regions-length regions (s .count) (keepoutOf (s .head .gap) m) space ∙ k .shaped .room;
+          kept = rw (more-shapes, map-append (keepoutOf (s .head .gap)) before (m ∷ []), add-one (s .count)) (regions-more regions (s .count) (keepouts (s .head .gap) before) (keepoutOf (s .head .gap) m) space (k .shaped .kept));
         })
         (k .filled) tt
 
@@ -175,7 +169,7 @@ module _ (s : State) (shapes regions amounts : List ℕ) (k : Held s shapes regi
       no-fill-fault (s .head) (take (tileCount (s .head)) amounts) (roomOf (standing s shapes amounts) i j) i j p
       (no-fault unitLimits (standing s shapes amounts) (Fill i j p) e .own)
 
-  on-fill : (i j p : ℕ) (near : Near) → lineFault unitLimits (standing s shapes amounts) (Fill i j p) ≡ 0 → NearHeld (s .head) (take (4 * s .count) regions) near →
+  on-fill : (i j p : ℕ) (near : Near) → lineFault unitLimits (standing s shapes amounts) (Fill i j p) ≡ 0 → NearHeld (s .head) (take (regionNumbers * s .count) regions) near →
       Entered s shapes amounts (Fill i j p) (record { turn = Fills; head = s .head; count = s .count; near = near }) shapes regions
       (set amounts (tileIndex (tilesAcross (s .head)) i j) p)
   unfolding standsAfter
@@ -239,7 +233,7 @@ module _ (s : State) (shapes regions amounts : List ℕ) (k : Held s shapes regi
     fill-row-asked = (fill-regions, good .row)
 
   pub enter-fill : (f : Form) (i j p : ℕ) (amounts′ : List ℕ) (near : Near) → f ≡ Fill i j p → lineFault unitLimits (standing s shapes amounts) f ≡ 0 →
-      amounts′ ≡ set amounts (tileIndex (tilesAcross (s .head)) i j) p → NearHeld (s .head) (take (4 * s .count) regions) near →
+      amounts′ ≡ set amounts (tileIndex (tilesAcross (s .head)) i j) p → NearHeld (s .head) (take (regionNumbers * s .count) regions) near →
       Entered s shapes amounts f (record { turn = Fills; head = s .head; count = s .count; near = near }) shapes regions amounts′
   enter-fill f i j p amounts′ near q e new served = rw (q, new) (on-fill i j p near (rw q at e) served)
 

@@ -15,6 +15,7 @@ use Rattle.geometry.specs.Sizes.{widest}
 use Rattle.geometry.specs.Layout.{rectsOf, sharesSquare}
 use Rattle.geometry.proofs.Tables.{rects-length}
 use Rattle.fill.specs.Eligible.{tile}
+use Rattle.fill.specs.Free.{regionNumbers}
 use Rattle.fill.specs.Judge.{tileIndex, numberAt}
 use Rattle.fill.specs.Sizes.{SmallBox}
 use Rattle.fill.proofs.Grown.{regions-fillable}
@@ -197,7 +198,7 @@ module _ (s : State) (shapes amounts : List ℕ) (f : Form) where
       rw e
       (k
       ∙ ap (λ (room : ℕ). fillFault (s .head) (take (tileCount (s .head)) amounts) room i j p)
-      (regions-fillable (take (4 * s .count) regions) (keepouts (s .head .gap) (shapesIn (s .count) shapes)) (tile (tileSide (s .head)) i j)
+      (regions-fillable (take (regionNumbers * s .count) regions) (keepouts (s .head .gap) (shapesIn (s .count) shapes)) (tile (tileSide (s .head)) i j)
       (held .shaped .kept)))
 
   pub own-end : f ≡ End → 0 ≡ ownFault unitLimits (standing s shapes amounts) f

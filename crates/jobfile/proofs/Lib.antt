@@ -11,5 +11,5 @@ pub mod Lines
 pub mod Spelled
 pub mod Files
 pub mod Widening
-pub mod Unused
+pub mod SameGaps
 pub mod Accepted

@@ -11,7 +11,7 @@ use borrow.Author.Tests.{eq-eqb, ne-eqb, eqb-true}
 use Rattle.geometry.specs.declared.Rect.{Rect}
 use Rattle.fill.specs.declared.Part.{Part}
 use Rattle.fill.specs.Eligible.{tile}
-use Rattle.fill.specs.Free.{Serves}
+use Rattle.fill.specs.Free.{regionNumbers, Serves}
 use Rattle.fill.proofs.Near.{all-serves, serves-inside}
 use Rattle.jobfile.specs.declared.Head.{Head}
 use Rattle.jobfile.specs.declared.Near.{Near}
@@ -65,6 +65,6 @@ module _ (s : State) (regions : List ℕ) (row d : ℕ) (k : RegionsHeld s regio
   pub row-end : row * d + d ≤ unitLimits .side
   row-end = rw e (omega (arith, tile-end (s .head) row (head-facts (s .head) (k .head)) inside))
 
-  pub row-served : (p : Part) → Serves (take (4 * s .count) regions) (record { x1 = 0; y1 = row * d; x2 = s .head .size; y2 = row * d + d }) p →
-      NearHeld (s .head) (take (4 * s .count) regions) (Row row p)
+  pub row-served : (p : Part) → Serves (take (regionNumbers * s .count) regions) (record { x1 = 0; y1 = row * d; x2 = s .head .size; y2 = row * d + d }) p →
+      NearHeld (s .head) (take (regionNumbers * s .count) regions) (Row row p)
   row-served p q = rw e at q

@@ -1,22 +1,20 @@
--- Shapes in the reader's tables: rectangles and kinds apart, one shape more, and the regions of the shapes.
+-- Shapes in the reader's tables: rectangles and kinds apart, and one shape more.
 use Prim.Native.Nat.{ℕ, zero, suc, _+_, _-_, _*_, _≤_, _<_}
 use mathlib.Core.Path.{_≡_, refl, sym, ap, ap₂, _∙_}
 use mathlib.Core.List.{List, [], _∷_, _++_, append-assoc, map-append}
 use native.Mathlib.Nat.{zero-add, suc-add}
 use native.Mathlib.Omega.{arith}
-use lib.ListN.{length, take, drop, set, replicate, length-append, length-map, length-replicate}
+use lib.ListN.{length, take, drop, set, length-append, length-map, length-replicate}
 use lib.Seq.{take-at, drop-at, drop-drop}
 use Rattle.geometry.specs.declared.Rect.{Rect}
 use Rattle.geometry.specs.Layout.{rectsOf, withRect}
-use Rattle.geometry.proofs.Tables.{fourOf, stored-split, stored-rects}
+use Rattle.geometry.proofs.Tables.{fourOf, stored-split}
 use Rattle.spelling.proofs.Progress.{filled-more}
-use Rattle.fill.specs.Free.{regionOf, regionsOf, Regions}
-use Rattle.jobfile.specs.declared.Gap.{Gap}
 use Rattle.jobfile.specs.declared.Kind.{Kind}
 use Rattle.jobfile.specs.declared.Kind.the-variants.{Drawn, Dummy}
 use Rattle.jobfile.specs.declared.Shape.{Shape}
 use Rattle.jobfile.specs.Limits.{unitLimits}
-use Rattle.jobfile.specs.Shapes.{rectangles, keepoutOf, keepouts}
+use Rattle.jobfile.specs.Shapes.{rectangles}
 use Rattle.jobfile.specs.Held.{cornersRoom, shapesRoom, kindNumber, kindOf, kindsOf, shapesBy, shapesIn, tableOf, padded, shapesTable, withShape}
 use Rattle.jobfile.proofs.Tables.{length-table, rects-of-table, table-more, zeros}
 
@@ -142,12 +140,3 @@ module _ (ss : List Shape) (s : Shape) (more : length ss < unitLimits .shapes) w
     where
       full : length (padded cornersRoom (tableOf (rectangles (ss ++ (s ∷ []))))) ≡ cornersRoom
       full = front-length (ss ++ (s ∷ [])) (omega (arith, length-append ss (s ∷ [])))
-
--- ---- the regions
-
-pub regions-more : (g : Gap) (ss : List Shape) (s : Shape) (regions : List ℕ) (c : ℕ) → 4 * c + 4 ≤ length regions → Regions (take (4 * c) regions) (keepouts g ss) →
-    Regions (take (4 * suc c) (withRect regions c (regionOf (keepoutOf g s)))) (keepouts g (ss ++ (s ∷ [])))
-regions-more g ss s regions c h e =
-    stored-rects regions c (regionOf (keepoutOf g s)) h
-    ∙ ap (λ (rs : List Rect). rs ++ (regionOf (keepoutOf g s) ∷ [])) e
-    ∙ sym (ap regionsOf (map-append (keepoutOf g) ss (s ∷ [])) ∙ map-append regionOf (keepouts g ss) (keepoutOf g s ∷ []))

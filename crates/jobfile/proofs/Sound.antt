@@ -30,6 +30,12 @@ use Rattle.jobfile.proofs.Tables.{getD-zeros}
 
 -- ---- the turn
 
+pub heading-turn : (t : Turn) (h : Head) → inTurn t (Heading h) ≡ true → t ≡ Before
+heading-turn Before h e = refl
+heading-turn Shapes h e = absurd (false≢true e)
+heading-turn Fills h e = absurd (false≢true e)
+heading-turn Done h e = absurd (false≢true e)
+
 pub shape-turn : (t : Turn) (s : Shape) → inTurn t (Metal s) ≡ true → t ≡ Shapes
 shape-turn Before s e = absurd (false≢true e)
 shape-turn Shapes s e = refl

@@ -1,12 +1,12 @@
 -- A line spells a form exactly if it is read as that form.
 use Prim.Native.Nat.{ℕ, zero, suc}
 use mathlib.Core.Path.{_≡_, refl, sym, ap, _∙_, subst}
-use mathlib.Core.Bool.{Bool, true, false, not, _&&_, false≢true}
+use mathlib.Core.Bool.{Bool, true, false, not, false≢true}
 use mathlib.Core.List.{List, [], _∷_, _++_}
 use mathlib.Core.Option.{Option, none, some}
 use native.Mathlib.Omega.{arith}
 use lib.Dec.{eqb}
-use borrow.Author.Tests.{ne-eqb, eqb-true, eqb-false, not-true}
+use borrow.Author.Tests.{ne-eqb, not-true}
 use lib.ListN.{length, getD}
 use Rattle.laws.proofs.Tests.{both}
 use Rattle.spelling.specs.Text.{bytes}
@@ -26,10 +26,10 @@ use Rattle.jobfile.specs.declared.Head.{Head}
 use Rattle.jobfile.specs.declared.Kind.{Kind}
 use Rattle.jobfile.specs.declared.Kind.the-variants.{Drawn, Dummy}
 use Rattle.jobfile.specs.Limits.{Limits}
-use Rattle.jobfile.specs.Shapes.{withGap}
 use Rattle.jobfile.specs.Forms.{oneGapPattern, twoGapsPattern, headPattern, rectPattern, dummyPattern, shapePattern, fillPattern, endPattern}
 use Rattle.jobfile.specs.Forms.{oneGapForm, twoGapsForm, shapeForm, fillForm, endForm, formIf, headForm, rareForm, formOf}
 use Rattle.jobfile.specs.Faults.{known}
+use Rattle.jobfile.specs.Gaps.{withGap}
 use Rattle.jobfile.specs.Acceptance.{numbersOf, spellingOf, Spells, feedless}
 
 -- ---- what is read is spelled so

@@ -2,25 +2,21 @@
 -- has a first fault. `Acceptance` says that `outcomeOf` gives just this, so a buyer need not follow `formOf` and `readLines`.
 use Prim.Native.Nat.{ℕ, _+_, _≤_, _<_}
 use mathlib.Core.Path.{_≡_}
-use mathlib.Core.Bool.{Bool, true, false, not, _&&_, _||_}
+use mathlib.Core.Bool.{Bool, true, not, _&&_}
 use mathlib.Core.List.{List, [], _∷_, _++_}
 use lib.Dec.{eqb}
 use lib.ListN.{length}
-use Rattle.spelling.specs.Text.{pieces}
 use Rattle.spelling.specs.Decimal.{EachShort}
 use Rattle.spelling.specs.Pattern.{spell}
 use Rattle.jobfile.specs.declared.Form.{Form}
 use Rattle.jobfile.specs.declared.Form.the-variants.{Unknown, Heading, Metal, Fill, End}
 use Rattle.jobfile.specs.declared.Gap.{Gap}
 use Rattle.jobfile.specs.declared.Gap.the-variants.{Both, Each}
-use Rattle.jobfile.specs.declared.Head.{Head}
-use Rattle.jobfile.specs.declared.Kind.the-variants.{Dummy}
 use Rattle.jobfile.specs.declared.Turn.the-variants.{Done}
 use Rattle.jobfile.specs.Limits.{Limits, Widened}
-use Rattle.jobfile.specs.Shapes.{isKind, withGap}
-use Rattle.jobfile.specs.Forms.{headPattern, shapePattern, fillPattern, endPattern, formOf}
+use Rattle.jobfile.specs.Forms.{headPattern, shapePattern, fillPattern, endPattern}
 use Rattle.jobfile.specs.Faults.{Standing, beforeHead, known, lineFault, standsAfter}
-use Rattle.jobfile.specs.File.{Outcome, refused, accepted, outcomeOf}
+use Rattle.jobfile.specs.File.{refused, accepted, outcomeOf}
 
 -- ---- the spelling of a form
 
@@ -100,7 +96,7 @@ pub data RefusedFile (limits : Limits) (file : List ℕ) : (number line : ℕ) �
   long : limits .bytes < length file → RefusedFile limits file 1 0
   lines : {number line : ℕ} → length file ≤ limits .bytes → FirstFault limits beforeHead 1 file number line → RefusedFile limits file number line
 
--- ---- what is promised of every file; proofs/Files.antt, proofs/Widening.antt and proofs/Unused.antt prove it for all limits
+-- ---- what is promised of every file; proofs/Files.antt and proofs/Widening.antt prove it for all limits
 
 -- a file is accepted, or refused with a number and a line, exactly if it is so as said above
 pub record Acceptance (limits : Limits) (file : List ℕ) : Type 0 where
@@ -112,39 +108,3 @@ pub record Acceptance (limits : Limits) (file : List ℕ) : Type 0 where
 -- where limits are widened, every file that was accepted still is, with the same standing
 abbrev pub Widening : Type 0
 Widening = (old new : Limits) → Widened old new → (file : List ℕ) (st : Standing) → outcomeOf old file ≡ accepted st → outcomeOf new file ≡ accepted st
-
--- whether a form is a dummy, and a text, by the pieces between its line feeds, has a line that is one
-abbrev pub isDummy : Form → Bool
-isDummy Unknown = false
-isDummy (Heading h) = false
-isDummy (Metal s) = isKind Dummy (s .kind)
-isDummy (Fill i j p) = false
-isDummy End = false
-
-unfoldable pub someDummy : Limits → List (List ℕ) → Bool
-someDummy limits [] = false
-someDummy limits (line ∷ more) = isDummy (formOf limits line) || someDummy limits more
-
--- what stands, where the head says something else of gaps; and outcomes that are the same but for that
-abbrev pub regapped : Gap → Standing → Standing
-regapped g st = record { turn = st .turn; head = withGap (st .head) g; shapes = st .shapes; amounts = st .amounts }
-
-pub data SameButGap : Outcome → Outcome → Type 0 where
-  both-refused : {number line : ℕ} → SameButGap (refused number line) (refused number line)
-  both-accepted : {st : Standing} (g : Gap) → SameButGap (accepted st) (accepted (regapped g st))
-
--- a file by its head, what this says of gaps, and the text after it
-abbrev pub fileWith : Head → Gap → (rest : List ℕ) → List ℕ
-fileWith h g rest = spellingOf (Heading (withGap h g)) ++ (10 ∷ rest)
-
--- no number of a head with D has too many digits, D is in its range, and the file is not too long, with D or without
-pub record MayBegin (limits : Limits) (h : Head) (b d : ℕ) (rest : List ℕ) : Type 0 where
-  pub short : EachShort (limits .digits) (numbersOf (Heading (withGap h (Each b d))))
-  pub range : d ≤ limits .side
-  pub with-fits : length (fileWith h (Each b d) rest) ≤ limits .bytes
-  pub without-fits : length (fileWith h (Both b) rest) ≤ limits .bytes
-
--- D plays no part where there is no dummy: such a file comes to the same under (gap B D) as under (gap B)
-abbrev pub UnusedGap : Type 0
-UnusedGap = (limits : Limits) (h : Head) (b d : ℕ) (rest : List ℕ) → MayBegin limits h b d rest → someDummy limits (pieces rest) ≡ false →
-    SameButGap (outcomeOf limits (fileWith h (Both b) rest)) (outcomeOf limits (fileWith h (Each b d) rest))

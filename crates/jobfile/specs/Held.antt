@@ -11,7 +11,7 @@ use Rattle.geometry.specs.Layout.{Disjoint, Layer, rectsOf, withRect}
 use Rattle.spelling.specs.Scanning.{lineLength}
 use Rattle.fill.specs.declared.Part.{Part}
 use Rattle.fill.specs.Eligible.{tile}
-use Rattle.fill.specs.Free.{regionOf, Regions, freeFrom, Serves}
+use Rattle.fill.specs.Free.{regionNumbers, Regions, withRegion, freeIn, Serves}
 use Rattle.fill.specs.Judge.{numberAt}
 use Rattle.fill.specs.Sizes.{SmallKeepout}
 use Rattle.jobfile.specs.declared.Head.{Head}
@@ -33,13 +33,16 @@ use Rattle.jobfile.specs.Forms.{formOf, headInRange, rectInRange, tileSi
 use Rattle.jobfile.specs.Faults.{Standing, beforeHead, noHead, fitsLayout, roomOf, lineFault, standsAfter}
 use Rattle.jobfile.specs.File.{Outcome, refused, accepted}
 
--- the numbers that the tables have room for: four to a shape for its corners, and behind all of these one to a shape for its kind; four to a region;
--- one to a tile
+-- the numbers that the tables have room for: four to a shape for its corners, and behind all of these one to a shape for its kind; those of a region to
+-- a shape; one to a tile
 abbrev pub cornersRoom : ℕ
 cornersRoom = 4 * unitLimits .shapes
 
 abbrev pub shapesRoom : ℕ
 shapesRoom = cornersRoom + unitLimits .shapes
+
+abbrev pub regionsRoom : ℕ
+regionsRoom = regionNumbers * unitLimits .shapes
 
 abbrev pub amountsRoom : ℕ
 amountsRoom = unitLimits .tiles * unitLimits .tiles
@@ -135,8 +138,8 @@ pub record ShapesKept (h : Head) (n : ℕ) (shapes regions : List ℕ) : Type 0 
   pub table : shapes ≡ shapesTable (shapesIn n shapes)
   pub counted : length (shapesIn n shapes) ≡ n
   pub few : n ≤ unitLimits .shapes
-  pub room : length regions ≡ cornersRoom
-  pub kept : Regions (take (4 * n) regions) (keepouts (h .gap) (shapesIn n shapes))
+  pub room : length regions ≡ regionsRoom
+  pub kept : Regions (take (regionNumbers * n) regions) (keepouts (h .gap) (shapesIn n shapes))
 
 -- the table of amounts, 0 behind those of the layout's tiles
 pub record AmountsKept (h : Head) (amounts : List ℕ) : Type 0 where
@@ -149,12 +152,12 @@ pub record Held (s : State) (shapes regions amounts : List ℕ) : Type 0 where
   pub shaped : ShapesKept (s .head) (s .count) shapes regions
   pub filled : AmountsKept (s .head) amounts
   pub sound : Sound (standing s shapes amounts)
-  pub near : NearHeld (s .head) (take (4 * s .count) regions) (s .near)
+  pub near : NearHeld (s .head) (take (regionNumbers * s .count) regions) (s .near)
 
 -- tables without a number yet
 pub record Cleared (shapes regions amounts : List ℕ) : Type 0 where
   pub no-shapes : shapes ≡ replicate shapesRoom 0
-  pub no-regions : regions ≡ replicate cornersRoom 0
+  pub no-regions : regions ≡ replicate regionsRoom 0
   pub no-amounts : amounts ≡ replicate amountsRoom 0
 
 -- the rectangles that a state counts are in the table, and make a layer
@@ -165,7 +168,7 @@ pub record ShapesHeld (s : State) (shapes : List ℕ) : Type 0 where
 -- a shape that may be stored: the tables have room for it, and its region fits 64 bits
 pub record Storable (s : State) (shape : Shape) (shapes regions : List ℕ) : Type 0 where
   pub room : length shapes ≡ shapesRoom
-  pub regions-room : length regions ≡ cornersRoom
+  pub regions-room : length regions ≡ regionsRoom
   pub more : s .count < unitLimits .shapes
   pub small : SmallKeepout (keepoutOf (s .head .gap) shape)
 
@@ -176,7 +179,7 @@ withShape l n shape = set (withRect l n (shape .rect)) (cornersRoom + n) (kindNu
 -- a shape was stored: in the table of shapes, and its region
 pub record Stored (s : State) (shape : Shape) (shapes regions shapes′ regions′ : List ℕ) : Type 0 where
   pub table : shapes′ ≡ withShape shapes (s .count) shape
-  pub region : regions′ ≡ withRect regions (s .count) (regionOf (keepoutOf (s .head .gap) shape))
+  pub region : regions′ ≡ withRegion regions (s .count) (keepoutOf (s .head .gap) shape)
 
 -- tile (i, j) lies in the layout, which has no more tiles than are allowed
 pub record TileIn (h : Head) (i j : ℕ) : Type 0 where
@@ -186,13 +189,13 @@ pub record TileIn (h : Head) (i j : ℕ) : Type 0 where
 
 -- what the tiles of a layout are counted by
 pub record RegionsHeld (s : State) (regions : List ℕ) : Type 0 where
-  pub within : 4 * s .count ≤ length regions
+  pub within : regionNumbers * s .count ≤ length regions
   pub head : GoodHead (s .head)
-  pub near : NearHeld (s .head) (take (4 * s .count) regions) (s .near)
+  pub near : NearHeld (s .head) (take (regionNumbers * s .count) regions) (s .near)
 
 -- the free area of tile (i, j), by the regions
 abbrev pub freeRoom : State → (regions : List ℕ) → (i j : ℕ) → ℕ
-freeRoom s regions i j = freeFrom (take (4 * s .count) regions) 0 (tile (tileSide (s .head)) i j)
+freeRoom s regions i j = freeIn (take (regionNumbers * s .count) regions) (tile (tileSide (s .head)) i j)
 
 -- a good line was entered
 pub record Entered (s : State) (shapes amounts : List ℕ) (f : Form) (s′ : State) (shapes′ regions′ amounts′ : List ℕ) : Type 0 where

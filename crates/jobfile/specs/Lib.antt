@@ -4,4 +4,5 @@ pub mod Forms
 pub mod Faults
 pub mod File
 pub mod Acceptance
+pub mod Gaps
 pub mod Held

@@ -7,7 +7,6 @@ use Rattle.geometry.specs.declared.Rect.{Rect}
 use Rattle.fill.specs.declared.Keepout.{Keepout}
 use Rattle.jobfile.specs.declared.Gap.{Gap}
 use Rattle.jobfile.specs.declared.Gap.the-variants.{Both, Each}
-use Rattle.jobfile.specs.declared.Head.{Head}
 use Rattle.jobfile.specs.declared.Kind.{Kind}
 use Rattle.jobfile.specs.declared.Kind.the-variants.{Drawn, Dummy}
 use Rattle.jobfile.specs.declared.Shape.{Shape}
@@ -18,25 +17,11 @@ gapFor (Both b) kind = b
 gapFor (Each b d) Drawn = b
 gapFor (Each b d) Dummy = d
 
--- a head that says something else of gaps
-abbrev pub withGap : Head → Gap → Head
-withGap h g =
-    record {
-      size = h .size;
-      window = h .window;
-      cut = h .cut;
-      gap = g;
-      lower = h .lower;
-      upper = h .upper;
-      accuracy = h .accuracy;
-      levels = h .levels;
-    }
-
--- the rectangles of shapes of either kind: what areas, the shapes under a window and faults 8 and 9 go by
+-- the rectangles of shapes of either kind: what areas, the shapes under a window and fault 9 go by
 abbrev pub rectangles : List Shape → List Rect
 rectangles ss = map (λ s. s .rect) ss
 
--- the rectangles of the shapes of one kind
+-- whether two kinds are the same; and the rectangles of the shapes of one kind
 abbrev pub isKind : Kind → Kind → Bool
 isKind Drawn Drawn = true
 isKind Drawn Dummy = false

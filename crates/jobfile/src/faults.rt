@@ -11,6 +11,7 @@ use crate::forms::tiles_across;
 use crate::held::tile_place;
 use crate::limits::MOST_SHAPES;
 use crate::parts::part_for;
+use fill::REGION_NUMBERS;
 use fill::fillable;
 use fill::tile_box;
 use geometry::Rect;
@@ -97,7 +98,7 @@ fn tile_room(s: State, regions: &[u64], i: u64, j: u64) -> u64
 {
     let head = s.head;
     let count = s.count;
-    let end = 4 * count;
+    let end = REGION_NUMBERS * count;
     let near = s.near;
     let b = tile_box(tile_side(head), i, j);
     let part = part_for(near, j, end);

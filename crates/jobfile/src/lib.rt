@@ -72,8 +72,9 @@ pub enum Turn {
 
 // A file that was read: number and line of its first fault, both 0 where it has
 // none; then the head, the number of shapes, their table, and the amounts of the
-// tiles row by row, all 0 after a fault. The table of shapes has four corners to a
-// shape and, behind the room for all corners, its kind, 1 for a dummy.
+// tiles row by row, all 0 after a fault. The table of shapes has four numbers to a
+// shape, its corners, and behind the room for all of these its kind, 1 for a dummy;
+// no phase of an answer looks at kinds.
 pub struct Job {
     pub fault: u64,
     pub line: u64,

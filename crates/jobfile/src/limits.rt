@@ -1,4 +1,5 @@
 // The limits and ranges of the job file, each once, by name.
+use fill::REGION_NUMBERS;
 
 pub(crate) const MOST_BYTES: usize = 60000;
 
@@ -11,8 +12,8 @@ pub(crate) const CORNERS_ROOM: usize = 4 * MOST_SHAPES;
 
 pub(crate) const SHAPES_ROOM: usize = CORNERS_ROOM + MOST_SHAPES;
 
-// The regions of shapes, four numbers each.
-pub(crate) const REGIONS_ROOM: usize = 4 * MOST_SHAPES;
+// The regions of shapes.
+pub(crate) const REGIONS_ROOM: usize = REGION_NUMBERS * MOST_SHAPES;
 
 // N, W, B, D and corners.
 pub(crate) const MOST_SIDE: u64 = 65535;

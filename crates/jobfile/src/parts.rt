@@ -4,11 +4,13 @@ use crate::Near;
 use crate::State;
 use crate::forms::tile_side;
 use fill::Part;
+use fill::REGION_NUMBERS;
 use fill::part_near;
 use geometry::Rect;
 ghost use mathlib.Core.Path.{_≡_};
 ghost use Prim.Native.Nat.{_*_, _<_};
 ghost use lib.ListN.{take};
+ghost use Rattle.fill.specs.Free.{regionNumbers};
 ghost use Rattle.jobfile.specs.Forms.{tilesAcross};
 ghost use Rattle.jobfile.specs.Held.{isRow, partFor, NearHeld, RegionsHeld};
 
@@ -37,7 +39,7 @@ fn is_row(near: Near, row: u64) -> bool
 pub(crate) fn near_row(s: State, regions: &[u64], row: u64) -> Near
     requires { ⌜ RegionsHeld s (now regions) ⌝ }
     requires { ⌜ row < tilesAcross (s .head) ⌝ }
-    ensures { λ r. ⌜ NearHeld (s .head) (take (4 * s .count) (now (regions .entry))) r ⌝ }
+    ensures { λ r. ⌜ NearHeld (s .head) (take (regionNumbers * s .count) (now (regions .entry))) r ⌝ }
 {
     let near = s.near;
     let head = s.head;
@@ -45,7 +47,7 @@ pub(crate) fn near_row(s: State, regions: &[u64], row: u64) -> Near
     if is_row(near, row) {
         return near;
     }
-    let end = 4 * count;
+    let end = REGION_NUMBERS * count;
     let side = tile_side(head);
     let low = row * side;
     let b = Rect {

@@ -12,7 +12,8 @@ use Rattle.geometry.specs.declared.Rect.{Rect}
 use Rattle.geometry.specs.declared.Spot.{Spot}
 use Rattle.geometry.specs.declared.Sense.{Sense}
 use Rattle.geometry.specs.declared.Sense.the-variants.{Greatest, Least}
-use Rattle.geometry.specs.Layout.{windowBox, Disjoint}
+use Rattle.geometry.specs.Count.{one-if}
+use Rattle.geometry.specs.Layout.{sharesSquare, windowBox, Disjoint}
 use Rattle.geometry.proofs.Sharing.{no-shapes→no-area, no-area→no-shapes}
 use Rattle.geometry.proofs.Extremes.{not-better}
 use Rattle.extremes.specs.Exact.{extreme, extremeIn}
@@ -43,7 +44,7 @@ use Rattle.jobfile.specs.Shapes.{rectangles, keepouts}
 use Rattle.jobfile.specs.Forms.{tileSide, tilesAcross, planOf}
 use Rattle.jobfile.specs.Faults.{Standing, roomOf}
 use Rattle.unit.specs.Answering.{quickOf, answerFor, answerOf, quickIn}
-use Rattle.unit.proofs.Metal.{area-of-kinds, eligible-clear}
+use Rattle.unit.proofs.Metal.{sum-of-kinds, area-of-kinds, eligible-clear}
 use Rattle.unit.specs.Promise.{shapesAt, RealWindow, StartOf, EndsWith, ExactPromise, levelIn, BracketPromise, LevelPromise, QuickPromise, FillPromise, CountPromise, CountsPromise, DensityOff, DensityPromise, Promises}
 
 -- what an accepted job says: tiles fit the window and the layout, no two shapes share a unit square, and no amount exceeds its tile's fillable area
@@ -313,7 +314,8 @@ pub promises-kept : (st : Standing) → Runs st → Promises st (answerOf st)
 unfolding answerFor
 promises-kept st k =
     record {
-      metal = λ x y. area-of-kinds (st .shapes) (windowBox (st .head .window) x y) (k .apart);
+      both-kinds = λ x y. area-of-kinds (st .shapes) (windowBox (st .head .window) x y) (k .apart);
+      both-counted = λ x y. sum-of-kinds (st .shapes) (λ r. one-if (sharesSquare (r ∷ []) (windowBox (st .head .window) x y)));
       exact = exact;
       quick = quick;
       counts = counts;

@@ -1,23 +1,23 @@
--- Shapes of both kinds: areas are those of each kind together, and a placement stays clear of every shape.
-use Prim.Native.Nat.{ℕ, suc, _+_, _≤_}
-use mathlib.Core.Path.{_≡_, refl, sym, ap, ap₂, _∙_}
+-- Shapes of both kinds: areas and counts are those of each kind together, and a placement stays clear of every shape.
+use Prim.Native.Nat.{ℕ, _+_}
+use mathlib.Core.Path.{_≡_, refl, sym, ap₂, _∙_}
 use mathlib.Core.Bool.{Bool, true, false, not, _&&_, _||_}
 use mathlib.Core.List.{List, [], _∷_}
 use mathlib.Core.Logic.{_⊎_, inl, inr}
 use native.Mathlib.Omega.{arith}
-use lib.Dec.{T, leb, leb→le}
+use lib.Dec.{T}
 use Rattle.laws.proofs.Tests.{T-and, T-both, T-left, T-right, T-either}
 use Rattle.geometry.specs.declared.Rect.{Rect}
 use Rattle.geometry.specs.Count.{rectSum}
 use Rattle.geometry.specs.Layout.{holds, covered, coveredArea, Disjoint}
 use Rattle.geometry.specs.Overlaps.{overlap}
 use Rattle.geometry.proofs.Overlaps.{overlap-is-area}
-use Rattle.fill.specs.Eligible.{gapBetween, clearOf, clearOfAll, rectsIn, eligible}
+use Rattle.fill.specs.Eligible.{clearOf, clearOfAll, rectsIn, eligible}
 use Rattle.jobfile.specs.declared.Gap.{Gap}
 use Rattle.jobfile.specs.declared.Kind.{Kind}
 use Rattle.jobfile.specs.declared.Kind.the-variants.{Drawn, Dummy}
 use Rattle.jobfile.specs.declared.Shape.{Shape}
-use Rattle.jobfile.specs.Shapes.{gapFor, rectangles, rectanglesOf, isKind, keepoutOf, keepouts}
+use Rattle.jobfile.specs.Shapes.{rectangles, rectanglesOf, isKind, keepoutOf, keepouts}
 use Rattle.unit.specs.Promise.{Among, first, later, Clear}
 
 -- ---- the shapes of one kind are among all
@@ -45,9 +45,9 @@ of-disjoint k (s ∷ ss) d = go (isKind k (s .kind)) (of-disjoint k ss (d .1))
     go true ih = (λ x y p q. d .0 x y p (of-covered k ss x y q), ih)
     go false ih = ih
 
--- ---- areas
+-- ---- areas and counts
 
-sum-of-kinds : (ss : List Shape) (f : Rect → ℕ) → rectSum (rectangles ss) f ≡ rectSum (rectanglesOf Drawn ss) f + rectSum (rectanglesOf Dummy ss) f
+pub sum-of-kinds : (ss : List Shape) (f : Rect → ℕ) → rectSum (rectangles ss) f ≡ rectSum (rectanglesOf Drawn ss) f + rectSum (rectanglesOf Dummy ss) f
 unfolding rectSum rectanglesOf
 sum-of-kinds [] f = refl
 sum-of-kinds (s ∷ ss) f = go (s .kind) (sum-of-kinds ss f)
@@ -72,28 +72,18 @@ outside-all : (p q : Bool) → T (not (p || q)) → (p ≡ false) × T (not q)
 outside-all true q h = absurd h
 outside-all false q h = (refl, h)
 
+told : (p : Bool) → T p → p ≡ true
+told true h = refl
+told false h = absurd h
+
 -- an eligible square is clear of every shape, by the gap of its kind
-pub eligible-clear : (g : Gap) {s : Shape} {ss : List Shape} → Among s ss → (x y : ℕ) → T (eligible (keepouts g ss) x y) →
-    Clear (gapFor g (s .kind)) (s .rect) x y
+pub eligible-clear : (g : Gap) {s : Shape} {ss : List Shape} → Among s ss → (x y : ℕ) → T (eligible (keepouts g ss) x y) → Clear (keepoutOf g s) x y
 unfolding covered clearOfAll
 eligible-clear g {s = s} (first {ss = ss}) x y e =
     let rest = keepouts g ss in
     let k = T-both (not (holds (s .rect) x y || covered (rectsIn rest) x y)) (clearOf (keepoutOf g s) x y && clearOfAll rest x y) e in
     let c = T-both (clearOf (keepoutOf g s) x y) (clearOfAll rest x y) (k .1) in
-    record { outside = outside-all (holds (s .rect) x y) (covered (rectsIn rest) x y) (k .0) .0; away = away (c .0) }
-  where
-    across : ℕ
-    across = gapBetween x (suc x) (s .rect .x1) (s .rect .x2)
-
-    down : ℕ
-    down = gapBetween y (suc y) (s .rect .y1) (s .rect .y2)
-
-    away : T (clearOf (keepoutOf g s) x y) → (gapFor g (s .kind) ≤ across) ⊎ (gapFor g (s .kind) ≤ down)
-    away c = go (T-either (leb (gapFor g (s .kind)) across) (leb (gapFor g (s .kind)) down) c)
-      where
-        go : T (leb (gapFor g (s .kind)) across) ⊎ T (leb (gapFor g (s .kind)) down) → (gapFor g (s .kind) ≤ across) ⊎ (gapFor g (s .kind) ≤ down)
-        go (inl h) = inl (leb→le (gapFor g (s .kind)) across h)
-        go (inr h) = inr (leb→le (gapFor g (s .kind)) down h)
+    record { outside = outside-all (holds (s .rect) x y) (covered (rectsIn rest) x y) (k .0) .0; away = told (clearOf (keepoutOf g s) x y) (c .0) }
 eligible-clear g (later {t = t} {ss = ss} a) x y e =
     let rest = keepouts g ss in
     let k = T-both (not (holds (t .rect) x y || covered (rectsIn rest) x y)) (clearOf (keepoutOf g t) x y && clearOfAll rest x y) e in

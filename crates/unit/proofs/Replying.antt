@@ -15,6 +15,7 @@ use Rattle.fill.specs.Judge.{numberAt}
 use Rattle.spelling.specs.Text.{bytes}
 use Rattle.spelling.specs.Pattern.{spell}
 use Rattle.jobfile.specs.declared.Form.{Form}
+use Rattle.jobfile.specs.declared.Gap.{Gap}
 use Rattle.jobfile.specs.declared.Form.the-variants.{Unknown, Heading, Metal, Fill, End}
 use Rattle.jobfile.specs.Limits.{Limits, unitLimits}
 use Rattle.jobfile.specs.Shapes.{rectangles}
@@ -22,16 +23,16 @@ use Rattle.jobfile.specs.Forms.{inRange, tilesAcross, agrees}
 use Rattle.jobfile.specs.Faults.{Standing, beforeHead, check, inTurn, fitsLayout, known, ownFault, shapeFault, roomOf, fillFault, lineFault}
 use Rattle.jobfile.specs.File.{Outcome, refused, accepted, outcomeOf}
 use Rattle.jobfile.specs.Acceptance.{spellingOf, formsText, LineFault, spelled, unspelled, FirstFault, faulty, unfed, unended, RefusedFile, long, lines}
-use Rattle.jobfile.specs.Acceptance.{SameButGap, both-refused, both-accepted}
+use Rattle.jobfile.specs.Gaps.{outcomeWith, fileWith}
 use Rattle.jobfile.proofs.Files.{acceptance}
-use Rattle.jobfile.proofs.Unused.{unused-gap}
+use Rattle.jobfile.proofs.SameGaps.{gaps-decide}
 use Rattle.unit.specs.declared.Reply.{Reply}
 use Rattle.unit.specs.declared.Reply.the-variants.{Accepted, Refused}
 use Rattle.unit.specs.declared.render.Rendered.{Rendered}
 use Rattle.unit.specs.Answering.{answerFor, answerOf, textOf}
 use Rattle.unit.specs.Whole.{replyTo, bufferAfter, replyFor, bufferFor, replyNumber, replyValue, codeOf, printedOf, printedFor}
 use Rattle.unit.specs.Room.{answerRoom}
-use Rattle.unit.specs.Guarantee.{Guarantee, Reported, UnusedGapPrinted}
+use Rattle.unit.specs.Guarantee.{Guarantee, Reported, PrintedAlike}
 use Rattle.unit.specs.Rendering.{WrittenIn, asRendered, renderedIn, Rendering}
 use Rattle.unit.proofs.Accepting.{promised, refused-positive, found-accepted}
 
@@ -232,12 +233,13 @@ printed-refusal file before text d p bad after next w = go (outcomeOf unitLimits
               ∙ ap (λ (l : List ℕ). refusal number line ++ drop (length (refusal number line)) l) (q .buffer);
         }
 
--- ---- files that differ in D alone
+-- ---- files that differ in their gaps
 
-same-printed : {o o′ : Outcome} → SameButGap o o′ → printedOf o ≡ printedOf o′
+with-printed : (g : Gap) (o : Outcome) → printedOf (outcomeWith g o) ≡ printedOf o
 unfolding answerFor
-same-printed both-refused = refl
-same-printed (both-accepted g) = refl
+with-printed g (refused number line) = refl
+with-printed g (accepted st) = refl
 
-pub unused-gap-printed : UnusedGapPrinted
-unused-gap-printed h b d rest k n = same-printed (unused-gap unitLimits h b d rest k n)
+pub printed-alike : PrintedAlike
+printed-alike h g g′ rest k k′ same =
+    ap printedOf (gaps-decide unitLimits h g g′ rest k k′ same) ∙ with-printed g′ (outcomeOf unitLimits (fileWith h g rest))

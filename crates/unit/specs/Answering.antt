@@ -57,8 +57,7 @@ answerFor h rs amounts =
       verdict = verdictOf rs amounts (planOf h);
     }
 
--- an accepted job is answered by the rectangles of all its shapes, drawn metal and dummies alike: their kinds and the gaps decide which fills are
--- good, and nothing else
+-- an accepted job is answered by the rectangles of all its shapes, drawn metal and dummies alike: kinds and gaps decide on fault 11 alone
 abbrev pub answerOf : Standing → Answer
 answerOf st = answerFor (st .head) (rectangles (st .shapes)) (st .amounts)
 

@@ -9,7 +9,9 @@ use Rattle.extremes.specs.Cases.{exactRows}
 use Rattle.zoom.specs.Cases.{zoomRows}
 use Rattle.fill.specs.Cases.{fillRows}
 use Rattle.spelling.specs.Text.{bytes}
-use Rattle.unit.specs.Whole.{printedFor}
+use Rattle.jobfile.specs.Limits.{unitLimits}
+use Rattle.jobfile.specs.File.{outcomeOf}
+use Rattle.unit.specs.Whole.{printedOf, printedFor}
 
 -- the rows of each phase
 abbrev pub phaseRows : List Row
@@ -23,6 +25,25 @@ printedLines (l ∷ ls) = bytes l ++ 10 ∷ printedLines ls
 -- what the program prints for a file
 abbrev pub prints : String → List ℕ
 prints file = printedFor (bytes file)
+
+-- what the program would print for a file, were no more than two shapes allowed
+abbrev printsTwo : String → List ℕ
+printsTwo file =
+    let m = unitLimits in
+    printedOf
+    (outcomeOf
+    (record {
+      bytes = m .bytes;
+      digits = m .digits;
+      shapes = 2;
+      side = m .side;
+      tiles = m .tiles;
+      bound = m .bound;
+      accuracy = m .accuracy;
+      levels = m .levels;
+      amount = m .amount;
+    })
+    (bytes file))
 
 -- from bytes: job A's five lines, the other ends and verdicts, and refusals with their number and line
 abbrev pub byteRows : List Row
@@ -205,6 +226,51 @@ byteRows =
     ∷ row "drawn metal on a dummy"
     (prints "(job (size 8) (window 4) (cut 2) (gap 1 2) (bounds 0 5000) (zoom 0 6))\n(dummy 3 3 5 5)\n(rect 4 4 6 6)\n")
     (bytes "(refused 9 3)\n")
+    ∷ row "both kinds, each with its gap to fill"
+    (prints "(job (size 8) (window 4) (cut 2) (gap 1 2) (bounds 0 5000) (zoom 0 6))\n(rect 3 3 5 5)\n(dummy 7 7 8 8)\n(fill 2 3 2)\n(end)\n")
+    (printedLines
+    ("(exact (max 4 1 1 1) (min 1 0 0 1))"
+    ∷ "(zoom exact (levels 4) (floor 4 2 2 1) (ceiling 4) (kept 0))"
+    ∷ "(zoommin exact (levels 4) (low 1) (high 1 0 0 1) (kept 0))"
+    ∷ "(density 2500)"
+    ∷ "(fill safe)"
+    ∷ []))
+    ∷ row "both kinds, one unit of fill too many"
+    (prints "(job (size 8) (window 4) (cut 2) (gap 1 2) (bounds 0 5000) (zoom 0 6))\n(rect 3 3 5 5)\n(dummy 7 7 8 8)\n(fill 2 3 3)\n")
+    (bytes "(refused 11 4)\n")
+    ∷ row "D is B and no more where the head has one gap"
+    (prints "(job (size 8) (window 4) (cut 2) (gap 1) (bounds 0 5000) (zoom 0 6))\n(dummy 3 3 5 5)\n(fill 0 0 4)\n(end)\n")
+    (printedLines
+    ("(exact (max 4 1 1 1) (min 1 0 0 1))"
+    ∷ "(zoom met (levels 2) (floor 4 2 2 1) (ceiling 4) (kept 0))"
+    ∷ "(zoommin exact (levels 4) (low 1) (high 1 0 0 1) (kept 0))"
+    ∷ "(density 2500)"
+    ∷ "(fill safe)"
+    ∷ []))
+    ∷ row "a dummy on a dummy"
+    (prints "(job (size 8) (window 4) (cut 2) (gap 1 2) (bounds 0 5000) (zoom 0 6))\n(dummy 3 3 5 5)\n(dummy 4 4 6 6)\n")
+    (bytes "(refused 9 3)\n")
+    ∷ row "a dummy whose corners are exchanged"
+    (prints "(job (size 8) (window 4) (cut 2) (gap 1) (bounds 0 5000) (zoom 0 6))\n(dummy 5 5 3 3)\n")
+    (bytes "(refused 6 2)\n")
+    ∷ row "a dummy with a corner out of its range"
+    (prints "(job (size 8) (window 4) (cut 2) (gap 1) (bounds 0 5000) (zoom 0 6))\n(dummy 3 3 5 65536)\n")
+    (bytes "(refused 3 2)\n")
+    ∷ row "dummies in loads for the lower bound; D as large as may be"
+    (prints "(job (size 2) (window 2) (cut 2) (gap 0 65535) (bounds 10000 10000) (zoom 0 6))\n(dummy 0 0 2 2)\n(end)\n")
+    (printedLines
+    ("(exact (max 4 0 0 1) (min 4 0 0 1))"
+    ∷ "(zoom met (levels 1) (floor 4 0 0 1) (ceiling 4) (kept 0))"
+    ∷ "(zoommin exact (levels 3) (low 4) (high 4 0 0 1) (kept 0))"
+    ∷ "(density 10000)"
+    ∷ "(fill undecided under 0 0)"
+    ∷ []))
+    ∷ row "a third shape of two allowed, a rectangle"
+    (printsTwo "(job (size 8) (window 4) (cut 2) (gap 1) (bounds 0 5000) (zoom 0 6))\n(rect 0 0 1 1)\n(dummy 2 2 3 3)\n(rect 4 4 5 5)\n")
+    (bytes "(refused 8 4)\n")
+    ∷ row "a third shape of two allowed, a dummy"
+    (printsTwo "(job (size 8) (window 4) (cut 2) (gap 1) (bounds 0 5000) (zoom 0 6))\n(rect 0 0 1 1)\n(dummy 2 2 3 3)\n(dummy 4 4 5 5)\n")
+    (bytes "(refused 8 4)\n")
     ∷ row "a dummy past the layout"
     (prints "(job (size 8) (window 4) (cut 2) (gap 1) (bounds 0 5000) (zoom 0 6))\n(dummy 3 3 9 5)\n")
     (bytes "(refused 6 2)\n")

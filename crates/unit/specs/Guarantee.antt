@@ -8,16 +8,15 @@
 -- file there is its first fault and a buffer as it was. Time, stack and what the program reads and writes stand in no contract.
 use Prim.Native.Nat.{ℕ, _≤_, _<_}
 use mathlib.Core.Path.{_≡_}
-use mathlib.Core.Bool.{false}
 use mathlib.Core.List.{List}
 use lib.ListN.{length, take}
 use Rattle.buffers.specs.Written.{Front}
-use Rattle.spelling.specs.Text.{pieces}
-use Rattle.jobfile.specs.declared.Gap.the-variants.{Both, Each}
+use Rattle.jobfile.specs.declared.Gap.{Gap}
 use Rattle.jobfile.specs.declared.Head.{Head}
 use Rattle.jobfile.specs.Limits.{unitLimits}
 use Rattle.jobfile.specs.Faults.{Standing}
-use Rattle.jobfile.specs.Acceptance.{AcceptedFile, Acceptance, someDummy, fileWith, MayBegin}
+use Rattle.jobfile.specs.Acceptance.{AcceptedFile, Acceptance}
+use Rattle.jobfile.specs.Gaps.{fileWith, MayBegin, SameGaps}
 use Rattle.unit.specs.declared.Reply.{Reply}
 use Rattle.unit.specs.Answering.{answerOf}
 use Rattle.unit.specs.Whole.{replyFor, bufferFor, replyNumber, replyValue, printedFor}
@@ -46,7 +45,8 @@ pub record Reported (file before : List ℕ) (n : ℕ) (after : List ℕ) : Type
   pub printed : Front before (printedFor file) after n
   pub promised : FilePromise file
 
--- where no line is a dummy, D plays no part: under (gap B D) the same is printed as under (gap B)
-abbrev pub UnusedGapPrinted : Type 0
-UnusedGapPrinted = (h : Head) (b d : ℕ) (rest : List ℕ) → MayBegin unitLimits h b d rest → someDummy unitLimits (pieces rest) ≡ false →
-    printedFor (fileWith h (Both b) rest) ≡ printedFor (fileWith h (Each b d) rest)
+-- two files that differ in what the head says of gaps, and not in the gap of any kind of shape that they have, are printed alike: D plays no part where
+-- no line is a dummy, and (gap B) is (gap B B)
+abbrev pub PrintedAlike : Type 0
+PrintedAlike = (h : Head) (g g′ : Gap) (rest : List ℕ) → MayBegin unitLimits h g rest → MayBegin unitLimits h g′ rest → SameGaps unitLimits g g′ rest →
+    printedFor (fileWith h g′ rest) ≡ printedFor (fileWith h g rest)

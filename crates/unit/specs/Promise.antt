@@ -3,12 +3,11 @@
 -- specs/Guarantee.antt makes it part of the unit's contracts.
 use Prim.Native.Nat.{ℕ, suc, _+_, _-_, _*_, _≤_, _<_}
 use mathlib.Core.Path.{_≡_}
-use mathlib.Core.Bool.{Bool, false}
+use mathlib.Core.Bool.{Bool, true, false}
 use mathlib.Core.List.{List, [], _∷_}
 use mathlib.Core.Logic.{_⊎_}
 use lib.Dec.{T}
 use Rattle.rounding.specs.Nearest.{distance, Rounds}
-use Rattle.geometry.specs.declared.Rect.{Rect}
 use Rattle.geometry.specs.declared.Spot.{Spot}
 use Rattle.geometry.specs.declared.Sense.{Sense}
 use Rattle.geometry.specs.Layout.{holds}
@@ -17,15 +16,16 @@ use Rattle.extremes.specs.Exact.{windowArea, windowShapes, Position, extremeIn}
 use Rattle.zoom.specs.declared.Level.{Level}
 use Rattle.zoom.specs.declared.Quick.{Quick}
 use Rattle.zoom.specs.Run.{lastLevel, levelStep, levelAt, lowEnd, highEnd, Brackets, Narrows, endNumber}
+use Rattle.fill.specs.declared.Keepout.{Keepout}
 use Rattle.fill.specs.declared.Bound.{Bound}
 use Rattle.fill.specs.declared.Verdict.{Verdict}
-use Rattle.fill.specs.Eligible.{gapBetween}
+use Rattle.fill.specs.Eligible.{clearOf}
 use Rattle.fill.specs.Judge.{boundNumber, verdictNumbers}
 use Rattle.fill.specs.Placement.{Placement, placedSum, keeps}
 use Rattle.jobfile.specs.declared.Kind.{Kind}
 use Rattle.jobfile.specs.declared.Kind.the-variants.{Drawn, Dummy}
 use Rattle.jobfile.specs.declared.Shape.{Shape}
-use Rattle.jobfile.specs.Shapes.{gapFor, rectangles, rectanglesOf, keepouts}
+use Rattle.jobfile.specs.Shapes.{rectangles, rectanglesOf, keepoutOf, keepouts}
 use Rattle.jobfile.specs.Forms.{tileSide, planOf}
 use Rattle.jobfile.specs.Faults.{Standing}
 use Rattle.unit.specs.declared.run.Answer.{Answer}
@@ -43,6 +43,13 @@ areaAt st x y = windowArea (rectangles (st .shapes)) (st .head .window) x y
 abbrev pub shapesAt : Standing → (x y : ℕ) → ℕ
 shapesAt st x y = windowShapes (rectangles (st .shapes)) (st .head .window) x y
 
+-- the same of the shapes of one kind
+abbrev pub kindArea : Kind → Standing → (x y : ℕ) → ℕ
+kindArea k st x y = windowArea (rectanglesOf k (st .shapes)) (st .head .window) x y
+
+abbrev pub kindShapes : Kind → Standing → (x y : ℕ) → ℕ
+kindShapes k st x y = windowShapes (rectanglesOf k (st .shapes)) (st .head .window) x y
+
 -- a named window is a position, and the area named with it is its area
 pub record RealWindow (st : Standing) (p : Spot) : Type 0 where
   pub position : PositionOf st (p .x) (p .y)
@@ -51,10 +58,6 @@ pub record RealWindow (st : Standing) (p : Spot) : Type 0 where
 -- no position with the same area has a smaller y, or the same y and a smaller x
 abbrev pub Earliest : Standing → Spot → Type 0
 Earliest st p = (x y : ℕ) → PositionOf st x y → areaAt st x y ≡ p .area → (p .y < y) ⊎ ((p .y ≡ y) × (p .x ≤ x))
-
--- the part of it that the shapes of one kind cover
-abbrev pub kindArea : Kind → Standing → (x y : ℕ) → ℕ
-kindArea k st x y = windowArea (rectanglesOf k (st .shapes)) (st .head .window) x y
 
 -- a choice of unit squares is a placement of the job's fill
 abbrev pub Places : Standing → (ℕ → ℕ → Bool) → Type 0
@@ -154,10 +157,10 @@ pub data Among (s : Shape) : List Shape → Type 0 where
   first : {ss : List Shape} → Among s (s ∷ ss)
   later : {t : Shape} {ss : List Shape} → Among s ss → Among s (t ∷ ss)
 
--- the unit square (x, y) lies outside a rectangle, and its gap across or its gap down is at least g
-pub record Clear (g : ℕ) (r : Rect) (x y : ℕ) : Type 0 where
-  pub outside : holds r x y ≡ false
-  pub away : (g ≤ gapBetween x (suc x) (r .x1) (r .x2)) ⊎ (g ≤ gapBetween y (suc y) (r .y1) (r .y2))
+-- the unit square (x, y) lies outside a shape, and at least its gap away from it
+pub record Clear (k : Keepout) (x y : ℕ) : Type 0 where
+  pub outside : holds (k .rect) x y ≡ false
+  pub away : clearOf k x y ≡ true
 
 -- the fill, whichever eligible unit squares it takes: after "safe" every position keeps both bounds, on the tile grid or off it; after
 -- "broken" the named window is a position and breaks the bound named; there is at least one placement; and every one stays clear of all shapes, by B
@@ -169,12 +172,14 @@ pub record FillPromise (st : Standing) (v : Verdict) : Type 0 where
       KeepsAt st chosen b (i * tileSide (st .head)) (j * tileSide (st .head)) → ⊥
   pub placeable : (chosen : ℕ → ℕ → Bool) × Places st chosen
   pub clear : (chosen : ℕ → ℕ → Bool) → Places st chosen → (x y : ℕ) → T (chosen x y) → (s : Shape) → Among s (st .shapes) →
-      Clear (gapFor (st .head .gap) (s .kind)) (s .rect) x y
+      Clear (keepoutOf (st .head .gap) s) x y
 
 -- the answer to an accepted job: both extremes, the quick run of each beside it, the shapes under the windows that these name, the density, and
--- the fill. Every area that it speaks of is that of the drawn metal and that of the dummies together, so the bounds after "safe" include old dummies
+-- the fill. Every area and every count that it speaks of is that of the drawn metal and that of the dummies together, so the bounds after "safe"
+-- include old dummies
 pub record Promises (st : Standing) (a : Answer) : Type 0 where
-  pub metal : (x y : ℕ) → areaAt st x y ≡ kindArea Drawn st x y + kindArea Dummy st x y
+  pub both-kinds : (x y : ℕ) → areaAt st x y ≡ kindArea Drawn st x y + kindArea Dummy st x y
+  pub both-counted : (x y : ℕ) → shapesAt st x y ≡ kindShapes Drawn st x y + kindShapes Dummy st x y
   pub exact : (s : Sense) → ExactPromise s st (extremeIn s (a .exact))
   pub quick : (s : Sense) → QuickPromise s st (quickIn s a) (extremeIn s (a .exact) .area)
   pub counts : CountsPromise st a

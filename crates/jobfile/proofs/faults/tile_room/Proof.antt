@@ -6,7 +6,7 @@ use denote.Ref.{now}
 use lib.ListN.{take}
 use lib.Seq.{length-take-le}
 use Rattle.fill.specs.Eligible.{tile}
-use Rattle.fill.specs.Free.{freeFrom}
+use Rattle.fill.specs.Free.{regionNumbers, freeIn}
 use Rattle.jobfile.specs.Forms.{tileSide}
 use Rattle.jobfile.proofs.Rows.{tile-served}
 use Rattle.jobfile.proofs.Faulting.{tile-corners, tile-small}
@@ -32,14 +32,14 @@ fillable-requires c κs =
     let s = start .args .s in
     let is = box (c .before .before) in (
       tile-small (s .head) _ _ _ (start .pre .0 .head) (start .pre .1) is,
-      tile-served (s .head) (take (4 * s .count) (now (start .args .regions))) (s .near) _ _ (4 * s .count) _ _ (start .pre .0 .head) (start .pre .1)
+      tile-served (s .head) (take (regionNumbers * s .count) (now (start .args .regions))) (s .near) _ _ (regionNumbers * s .count) _ _ (start .pre .0 .head) (start .pre .1)
           (start .pre .0 .near) (sym (length-take-le _ _ (start .pre .0 .within))) is (c .before .part-for .ensures),
     )
 
 returns : tie.Need-returns
 returns c =
     let start = c .before .before .before .before .before .before .before in
-    c .fillable .ensures ∙ ap (freeFrom (take (4 * start .args .s .count) (now (start .args .regions))) 0) (box (c .before .before .before))
+    c .fillable .ensures .0 ∙ ap (freeIn (take (regionNumbers * start .args .s .count) (now (start .args .regions)))) (box (c .before .before .before))
 
 pub tile-room-spec : {M : Type 1} → statement M
 tile-room-spec =

@@ -1,14 +1,12 @@
 -- `jobfile::held::store_shape` meets its contract, by what its callees ensure. Assumes nothing.
-use Prim.Native.Nat.{ℕ, _+_, _≤_}
-use mathlib.Core.Path.{_≡_, ap, ap₂, _∙_}
+use Prim.Native.Nat.{ℕ, _+_}
+use mathlib.Core.Path.{ap, ap₂, _∙_}
+use mathlib.Core.List.{List}
 use native.Mathlib.Omega.{arith}
 use borrow.Author.Needs.{needs}
 use denote.Ref.{now}
-use lib.ListN.{length, set, length-set}
-use mathlib.Core.List.{List}
-use Rattle.geometry.specs.Layout.{withRect}
-use Rattle.fill.specs.declared.Keepout.{Keepout}
-use Rattle.fill.specs.Free.{regionOf}
+use lib.ListN.{set}
+use Rattle.fill.specs.Free.{withRegion}
 use Rattle.jobfile.specs.Held.{cornersRoom}
 use Rattle.jobfile.proofs.held.store_shape.Statement.{statement}
 use Rattle.jobfile.proofs.held.store_shape.Tie as tie
@@ -39,7 +37,7 @@ returns c =
           ap₂ (λ (l : List ℕ) (n : ℕ). set l (cornersRoom + start .args .s .count) n) (stored .store-rect .ensures) (number .kind-number .ensures);
       region =
           kept .keep-out .ensures
-          ∙ ap (λ (g : ℕ). withRect (now (start .args .regions)) (start .args .s .count) (regionOf (record { rect = start .args .shape .rect; gap = g }))) (kept .before .gap-for .ensures);
+          ∙ ap (λ (g : ℕ). withRegion (now (start .args .regions)) (start .args .s .count) (record { rect = start .args .shape .rect; gap = g })) (kept .before .gap-for .ensures);
     }
 
 pub store-shape-spec : {M : Type 1} → statement M

@@ -1,0 +1,68 @@
+-- What the head says of gaps decides on fills alone, on each kind of shape by its own gap: files that are the same but for that. So D plays no part
+-- where there is no dummy, and (gap B) is (gap B B). The unit's specs/Guarantee.antt says what follows for what is printed.
+use Prim.Native.Nat.{ℕ, _≤_}
+use mathlib.Core.Path.{_≡_}
+use mathlib.Core.Bool.{true}
+use mathlib.Core.List.{List, [], _∷_, _++_}
+use mathlib.Core.Logic.{_⊎_}
+use lib.ListN.{length}
+use Rattle.spelling.specs.Text.{pieces}
+use Rattle.spelling.specs.Decimal.{EachShort}
+use Rattle.jobfile.specs.declared.Form.the-variants.{Heading, Metal}
+use Rattle.jobfile.specs.declared.Gap.{Gap}
+use Rattle.jobfile.specs.declared.Head.{Head}
+use Rattle.jobfile.specs.declared.Kind.the-variants.{Drawn, Dummy}
+use Rattle.jobfile.specs.declared.Shape.{Shape}
+use Rattle.jobfile.specs.Limits.{Limits}
+use Rattle.jobfile.specs.Shapes.{gapFor}
+use Rattle.jobfile.specs.Forms.{gapInRange}
+use Rattle.jobfile.specs.Faults.{Standing}
+use Rattle.jobfile.specs.File.{Outcome, refused, accepted, outcomeOf}
+use Rattle.jobfile.specs.Acceptance.{numbersOf, spellingOf, Spells}
+
+-- a head that says something else of gaps
+abbrev pub withGap : Head → Gap → Head
+withGap h g =
+    record {
+      size = h .size;
+      window = h .window;
+      cut = h .cut;
+      gap = g;
+      lower = h .lower;
+      upper = h .upper;
+      accuracy = h .accuracy;
+      levels = h .levels;
+    }
+
+-- what stands, and what a file comes to, under such a head
+abbrev pub standingWith : Gap → Standing → Standing
+standingWith g st = record { turn = st .turn; head = withGap (st .head) g; shapes = st .shapes; amounts = st .amounts }
+
+abbrev pub outcomeWith : Gap → Outcome → Outcome
+outcomeWith g (refused number line) = refused number line
+outcomeWith g (accepted st) = accepted (standingWith g st)
+
+-- a file by its head, what this says of gaps, and the text after it
+abbrev pub fileWith : Head → Gap → (rest : List ℕ) → List ℕ
+fileWith h g rest = spellingOf (Heading (withGap h g)) ++ (10 ∷ rest)
+
+-- the head's numbers have no more digits than are allowed, its gaps are in their range, and the file is not too long
+pub record MayBegin (limits : Limits) (h : Head) (g : Gap) (rest : List ℕ) : Type 0 where
+  pub short : EachShort (limits .digits) (numbersOf (Heading (withGap h g)))
+  pub range : gapInRange limits g ≡ true
+  pub fits : length (fileWith h g rest) ≤ limits .bytes
+
+-- no line spells a dummy, of a text by its pieces between line feeds
+unfoldable pub NoDummy : Limits → List (List ℕ) → Type 0
+NoDummy limits [] = Unit {0}
+NoDummy limits (line ∷ more) = ((s : Shape) → s .kind ≡ Dummy → Spells limits line (Metal s) → ⊥) × NoDummy limits more
+
+-- two heads have the same gap for each kind of shape that a text has
+pub record SameGaps (limits : Limits) (g g′ : Gap) (rest : List ℕ) : Type 0 where
+  pub drawn : gapFor g Drawn ≡ gapFor g′ Drawn
+  pub dummies : (gapFor g Dummy ≡ gapFor g′ Dummy) ⊎ NoDummy limits (pieces rest)
+
+-- then a file comes to the same under one as under the other; proofs/SameGaps.antt proves it for all limits
+abbrev pub GapsDecide : Type 0
+GapsDecide = (limits : Limits) (h : Head) (g g′ : Gap) (rest : List ℕ) → MayBegin limits h g rest → MayBegin limits h g′ rest →
+    SameGaps limits g g′ rest → outcomeOf limits (fileWith h g′ rest) ≡ outcomeWith g′ (outcomeOf limits (fileWith h g rest))
