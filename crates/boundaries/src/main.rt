@@ -1,5 +1,5 @@
-// The limits that document 01 asks to be run, one file each, and what the
-// program prints for them.
+// The limits that document 01 asks to be run, and dummies among the shapes, one
+// file each, and what the program prints for them.
 use libc::STDOUT_FILENO;
 
 // Prints what the program prints for a file.
@@ -22,6 +22,8 @@ fn main() {
     show(b"bytes_60001.job");
     show(b"rects_256.job");
     show(b"rects_257.job");
+    show(b"shapes_256.job");
+    show(b"shapes_257.job");
     show(b"tiles_64.job");
     show(b"tiles_65.job");
     show(b"fill_all.job");
