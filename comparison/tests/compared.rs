@@ -76,7 +76,7 @@ fn sample_jobs() {
         ("undecided", "(fill undecided over 2 1)"),
         ("safe", "(density 4062)"),
         ("half", "(density 938)"),
-        ("dummies", "(fill undecided under 1 1)"),
+        ("dummies", "(fill safe)"),
         ("refused", "(refused 11 8)"),
     ];
     on_large_stack(move || {

@@ -172,27 +172,9 @@ byteRows =
     ∷ "(density 938)"
     ∷ "(fill safe)"
     ∷ []))
-    ∷ row "a dummy is metal, under a head with D"
-    (prints "(job (size 8) (window 4) (cut 2) (gap 1 2) (bounds 0 5000) (zoom 0 6))\n(dummy 3 3 5 5)\n(fill 0 0 3)\n(end)\n")
-    (printedLines
-    ("(exact (max 4 1 1 1) (min 1 0 0 1))"
-    ∷ "(zoom met (levels 2) (floor 4 2 2 1) (ceiling 4) (kept 0))"
-    ∷ "(zoommin exact (levels 4) (low 1) (high 1 0 0 1) (kept 0))"
-    ∷ "(density 2500)"
-    ∷ "(fill safe)"
-    ∷ []))
     ∷ row "one unit of fill more than D leaves"
     (prints "(job (size 8) (window 4) (cut 2) (gap 1 2) (bounds 0 5000) (zoom 0 6))\n(dummy 3 3 5 5)\n(fill 0 0 4)\n")
     (bytes "(refused 11 3)\n")
-    ∷ row "drawn metal has B, not D"
-    (prints "(job (size 8) (window 4) (cut 2) (gap 1 2) (bounds 0 5000) (zoom 0 6))\n(rect 3 3 5 5)\n(fill 0 0 4)\n(end)\n")
-    (printedLines
-    ("(exact (max 4 1 1 1) (min 1 0 0 1))"
-    ∷ "(zoom met (levels 2) (floor 4 2 2 1) (ceiling 4) (kept 0))"
-    ∷ "(zoommin exact (levels 4) (low 1) (high 1 0 0 1) (kept 0))"
-    ∷ "(density 2500)"
-    ∷ "(fill safe)"
-    ∷ []))
     ∷ row "a greater B keeps fill from drawn metal"
     (prints "(job (size 8) (window 4) (cut 2) (gap 2 1) (bounds 0 5000) (zoom 0 6))\n(rect 3 3 5 5)\n(fill 0 0 4)\n")
     (bytes "(refused 11 3)\n")
