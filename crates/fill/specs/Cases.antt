@@ -1,4 +1,5 @@
--- Document 01, "Proved cases", rows A5 to A8, fillable areas and verdicts, and one for the gaps of document 02's request 5. The unit's proofs/Cases.antt shows that they follow.
+-- Document 01, "Proved cases", rows A5 to A8, fillable areas and verdicts, and one for the gaps of document 02's request 5. The unit's
+-- proofs/Cases.antt shows that they follow.
 use Prim.Native.Nat.{ℕ}
 use mathlib.Core.List.{List, [], _∷_, _++_, map}
 use Rattle.geometry.specs.Row.{Row, row}
@@ -26,7 +27,7 @@ verdictA u = verdictNumbers (verdictOf shapesA amountsA (record { across = 4; cu
 abbrev pub fillRows : List Row
 fillRows =
     row "A5" (fillableArea keepoutsA (tile 2 0 0) ∷ fillableArea keepoutsA (tile 2 1 1) ∷ []) (4 ∷ 0 ∷ [])
-    ∷ row "two shapes, each with its own gap" (fillableArea keepoutsTwo (tile 2 2 3) ∷ []) (2 ∷ [])
+    ∷ row "two shapes, each with its own gap" (fillableArea keepoutsTwo (tile 2 0 0) ∷ fillableArea keepoutsTwo (tile 2 2 3) ∷ []) (4 ∷ 2 ∷ [])
     ∷ row "A6" (verdictA 5000) (0 ∷ [])
     ∷ row "A7" (verdictA 2500) (2 ∷ 0 ∷ 0 ∷ 0 ∷ [])
     ∷ row "A8" (verdictA 2000) (1 ∷ 0 ∷ 1 ∷ 1 ∷ [])

@@ -21,12 +21,11 @@ use Rattle.jobfile.specs.declared.Shape.{Shape}
 use Rattle.jobfile.specs.declared.State.{State}
 use Rattle.jobfile.specs.declared.Form.{Form}
 use Rattle.jobfile.specs.declared.Form.the-variants.{Unknown, Heading, Metal, Fill, End}
-use Rattle.jobfile.specs.declared.Turn.{Turn}
 use Rattle.jobfile.specs.declared.Turn.the-variants.{Before, Shapes, Fills, Done}
 use Rattle.jobfile.specs.Limits.{unitLimits}
 use Rattle.jobfile.specs.Shapes.{keepoutOf, keepouts}
 use Rattle.jobfile.specs.Forms.{tilesAcross, agrees}
-use Rattle.jobfile.specs.Faults.{Standing, beforeHead, noHead, inTurn, roomOf, lineFault, standsAfter}
+use Rattle.jobfile.specs.Faults.{Standing, beforeHead, noHead, roomOf, lineFault, standsAfter}
 use Rattle.jobfile.specs.Held.{shapesRoom, amountsRoom, tileCount, shapesBy, shapesIn, tableOf, shapesTable, standing}
 use Rattle.jobfile.specs.Held.{ShapesKept, AmountsKept, Held, Storable, withShape, Stored, TileIn, NearHeld, RegionsHeld, Entered}
 use Rattle.jobfile.proofs.Heads.{head-facts, agreement}

@@ -178,7 +178,7 @@ pub regions-held : (s : State) (shapes regions amounts : List ℕ) → Held s sh
 regions-held s shapes regions amounts k n =
     record { within = omega (arith, k .shaped .few, k .shaped .room); head = k .sound .headed n; near = k .near }
 
--- ---- a form of its own kind
+-- ---- each form by itself
 
 module _ (s : State) (shapes amounts : List ℕ) (f : Form) where
   pub own-unknown : f ≡ Unknown → 2 ≡ ownFault unitLimits (standing s shapes amounts) f

@@ -1,6 +1,6 @@
 -- Files that differ in what the head says of gaps, and not in the gap of any kind of shape that they have, come to the same.
 use Prim.Native.Nat.{ℕ, suc, _≤_}
-use mathlib.Core.Path.{_≡_, refl, sym, ap, ap₂, _∙_, subst}
+use mathlib.Core.Path.{_≡_, refl, sym, ap, ap₂, _∙_}
 use mathlib.Core.Bool.{Bool, true, false}
 use mathlib.Core.List.{List, [], _∷_, _++_, map-append}
 use mathlib.Core.Logic.{_⊎_, inl, inr}
@@ -25,9 +25,9 @@ use Rattle.jobfile.specs.Limits.{Limits}
 use Rattle.jobfile.specs.Shapes.{gapFor, keepoutOf, keepouts}
 use Rattle.jobfile.specs.Forms.{gapInRange, inRange, tileSide, formOf}
 use Rattle.jobfile.specs.Faults.{Standing, beforeHead, known, check, inTurn, shapeFault, fillFault, lineFault, standsAfter}
-use Rattle.jobfile.specs.File.{Outcome, refused, accepted, atEnd, afterLast, readLines, outcomeOf}
+use Rattle.jobfile.specs.File.{Outcome, refused, atEnd, afterLast, readLines, outcomeOf}
 use Rattle.jobfile.specs.Acceptance.{numbersOf, spellingOf}
-use Rattle.jobfile.specs.Gaps.{withGap, standingWith, outcomeWith, fileWith, NoDummy, SameGaps, GapsDecide}
+use Rattle.jobfile.specs.Gaps.{withGap, standingWith, outcomeWith, fileWith, NoDummy, GapsDecide}
 use Rattle.jobfile.proofs.Faultless.{no-fault}
 use Rattle.jobfile.proofs.Sound.{heading-turn}
 use Rattle.jobfile.proofs.Lines.{read-next, short-enough}

@@ -56,7 +56,7 @@ after-head Done f e n b = let z : _≡_ {A = ℕ} 0 1 = cc in omega arith
 not-before : {A : Type 0} → Shapes ≡ Before → A
 not-before e = let z : _≡_ {A = ℕ} 0 1 = cc in absurd (omega arith)
 
--- ---- one more rectangle
+-- ---- one more shape
 
 good-more : (h : Head) (rs : List Rect) (r : Rect) → GoodShapes h rs → rectInRange unitLimits r ≡ true → fitsLayout h r ≡ true → GoodShapes h (rs ++ (r ∷ []))
 unfolding GoodShapes

@@ -86,7 +86,7 @@ fillFault h amounts room i j p =
     (check (leb p room) 11
     0))
 
--- the faults that a form of its own kind may have; 5: the head disagrees. An unknown form does not come here: `lineFault`
+-- the faults that each form may have by itself; 5: the head disagrees. An unknown form does not come here: `lineFault`
 abbrev pub ownFault : Limits → Standing → Form → ℕ
 ownFault limits st Unknown = 2
 ownFault limits st (Heading h) = check (agrees limits h) 5 0

@@ -1,5 +1,5 @@
--- What the head says of gaps decides on fills alone, on each kind of shape by its own gap: files that are the same but for that. So D plays no part
--- where there is no dummy, and (gap B) is (gap B B). The unit's specs/Guarantee.antt says what follows for what is printed.
+-- Of what the head says of gaps, only the gap of each kind of shape that a file has plays a part: files that are the same but for their gaps. So D plays
+-- no part where there is no dummy, and (gap B) is (gap B B). The unit's specs/Guarantee.antt says what follows for what is printed.
 use Prim.Native.Nat.{ℕ, _≤_}
 use mathlib.Core.Path.{_≡_}
 use mathlib.Core.Bool.{true}

@@ -129,7 +129,7 @@ fn fill_fault(s: State, regions: &[u64], amounts: &[u64], i: u64, j: u64, p: u64
     0
 }
 
-// The faults that a form of its own kind may have.
+// The faults that each form may have by itself.
 fn own_fault(s: State, f: Form, shapes: &[u64], regions: &[u64], amounts: &[u64]) -> u64
     requires { ⌜ Held s (now shapes) (now regions) (now amounts) ⌝ }
     requires { ⌜ inTurn (s .turn) f ≡ true ⌝ }

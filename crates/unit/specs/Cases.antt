@@ -209,7 +209,7 @@ byteRows =
     (prints "(job (size 8) (window 4) (cut 2) (gap 1 2) (bounds 0 5000) (zoom 0 6))\n(dummy 3 3 5 5)\n(rect 4 4 6 6)\n")
     (bytes "(refused 9 3)\n")
     ∷ row "both kinds, each with its gap to fill"
-    (prints "(job (size 8) (window 4) (cut 2) (gap 1 2) (bounds 0 5000) (zoom 0 6))\n(rect 3 3 5 5)\n(dummy 7 7 8 8)\n(fill 2 3 2)\n(end)\n")
+    (prints "(job (size 8) (window 4) (cut 2) (gap 1 2) (bounds 0 5000) (zoom 0 6))\n(rect 3 3 5 5)\n(dummy 7 7 8 8)\n(fill 0 0 4)\n(fill 2 3 2)\n(end)\n")
     (printedLines
     ("(exact (max 4 1 1 1) (min 1 0 0 1))"
     ∷ "(zoom exact (levels 4) (floor 4 2 2 1) (ceiling 4) (kept 0))"

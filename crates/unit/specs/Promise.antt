@@ -175,7 +175,7 @@ pub record FillPromise (st : Standing) (v : Verdict) : Type 0 where
       Clear (keepoutOf (st .head .gap) s) x y
 
 -- the answer to an accepted job: both extremes, the quick run of each beside it, the shapes under the windows that these name, the density, and
--- the fill. Every area and every count that it speaks of is that of the drawn metal and that of the dummies together, so the bounds after "safe"
+-- the fill. The area of every window, and the shapes under it, are those of drawn metal and those of dummies together, so the bounds after "safe"
 -- include old dummies
 pub record Promises (st : Standing) (a : Answer) : Type 0 where
   pub both-kinds : (x y : ℕ) → areaAt st x y ≡ kindArea Drawn st x y + kindArea Dummy st x y
