@@ -8,7 +8,7 @@ use native.Mathlib.Numerals.{add-one, add-two, add-three}
 use native.Mathlib.Omega.{arith}
 use lib.Dec.{T}
 use lib.ListN.{length, getD, take, drop, length-append, length-drop}
-use lib.Seq.{drop-cons, take-at, drop-at, sets-eq, length-sets, length-take-le}
+use lib.Seq.{drop-cons, take-at, sets-eq, length-sets, length-take-le}
 use Rattle.laws.proofs.Tests.{T-either, T-left, T-right}
 use Rattle.geometry.specs.declared.Rect.{Rect}
 use Rattle.geometry.specs.Layout.{holds, covered, Disjoint, rectsOf, withRect}
@@ -131,9 +131,6 @@ module _ (l : List ℕ) (c : ℕ) (r : Rect) (h : 4 * c + 4 ≤ length l) where
   stored-rects =
       ap rectsOf (ap (take (4 * suc c)) stored-split ∙ take-at (take (4 * c) l ++ fourOf r) (drop (4 * suc c) l) (4 * suc c) front)
       ∙ rects-more c (take (4 * c) l) (r .x1) (r .y1) (r .x2) (r .y2) (length-take-le (4 * c) l (omega arith))
-
-  pub stored-behind : drop (4 * suc c) (withRect l c r) ≡ drop (4 * suc c) l
-  stored-behind = ap (drop (4 * suc c)) stored-split ∙ drop-at (take (4 * c) l ++ fourOf r) (drop (4 * suc c) l) (4 * suc c) front
 
   pub stored-length : length (withRect l c r) ≡ length l
   stored-length = rw (add-one, add-two, add-three) (length-sets l (4 * c) (fourOf r))

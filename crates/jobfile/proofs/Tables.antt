@@ -1,13 +1,12 @@
 -- Tables of rectangles, four numbers each, and back to the list of rectangles; and tables of zeros.
-use Prim.Native.Nat.{ℕ, zero, suc, _+_, _*_, _-_, _≤_}
-use mathlib.Core.Path.{_≡_, refl, sym, ap, _∙_}
+use Prim.Native.Nat.{ℕ, zero, suc, _*_, _-_, _≤_}
+use mathlib.Core.Path.{_≡_, refl, ap, _∙_}
 use mathlib.Core.Bool.{true, _&&_}
 use mathlib.Core.List.{List, [], _∷_, _++_}
 use native.Mathlib.Nat.{le-trans}
 use native.Mathlib.Omega.{arith}
 use lib.Dec.{lit≤}
 use lib.ListN.{length, getD, take, drop, replicate}
-use lib.Seq.{drop-drop}
 use Rattle.laws.proofs.Tests.{both}
 use Rattle.geometry.specs.declared.Rect.{Rect}
 use Rattle.geometry.specs.Layout.{rectsOf, Disjoint, Layer}
@@ -18,21 +17,7 @@ use Rattle.jobfile.specs.Forms.{inSpan, rectInRange}
 use Rattle.jobfile.specs.Held.{GoodShapes, tableOf}
 use Rattle.jobfile.proofs.Heads.{Between, between}
 
--- ---- a table of n rectangles
-
--- the first of four numbers off: one rectangle less
-fewer : (m n : ℕ) → suc (suc (suc (suc m))) ≡ 4 * suc n → m ≡ 4 * n
-fewer m n e = omega arith
-
-pub table-of-rects : (n : ℕ) (t : List ℕ) → length t ≡ 4 * n → tableOf (rectsOf t) ≡ t
-unfolding rectsOf tableOf
-table-of-rects n [] e = refl
-table-of-rects n (a ∷ []) e = absurd (omega arith)
-table-of-rects n (a ∷ b ∷ []) e = absurd (omega arith)
-table-of-rects n (a ∷ b ∷ c ∷ []) e = absurd (omega arith)
-table-of-rects zero (a ∷ b ∷ c ∷ d ∷ t) e = absurd (omega arith)
-table-of-rects (suc n) (a ∷ b ∷ c ∷ d ∷ t) e =
-    ap (λ (s : List ℕ). a ∷ b ∷ c ∷ d ∷ s) (table-of-rects n t (fewer (length t) n e))
+-- ---- tables of rectangles
 
 pub length-table : (rs : List Rect) → length (tableOf rs) ≡ 4 * length rs
 unfolding tableOf
@@ -68,10 +53,6 @@ pub getD-zeros : (n k : ℕ) → getD (zeros n) k 0 ≡ 0
 getD-zeros zero k = refl
 getD-zeros (suc n) zero = refl
 getD-zeros (suc n) (suc k) = getD-zeros n k
-
--- zeros from a place are zeros from a later one
-pub zeros-later : (l : List ℕ) (m n k : ℕ) → drop m l ≡ zeros k → drop (m + n) l ≡ zeros (k - n)
-zeros-later l m n k e = sym (drop-drop n m l) ∙ ap (drop n) e ∙ drop-zeros n k
 
 -- ---- ranges
 

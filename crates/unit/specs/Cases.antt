@@ -22,6 +22,16 @@ unfoldable pub printedLines : List String → List ℕ
 printedLines [] = []
 printedLines (l ∷ ls) = bytes l ++ 10 ∷ printedLines ls
 
+-- job A's five lines
+abbrev linesA : List String
+linesA =
+    "(exact (max 4 1 1 1) (min 1 0 0 1))"
+    ∷ "(zoom met (levels 2) (floor 4 2 2 1) (ceiling 4) (kept 0))"
+    ∷ "(zoommin exact (levels 4) (low 1) (high 1 0 0 1) (kept 0))"
+    ∷ "(density 2500)"
+    ∷ "(fill safe)"
+    ∷ []
+
 -- what the program prints for a file
 abbrev pub prints : String → List ℕ
 prints file = printedFor (bytes file)
@@ -50,13 +60,7 @@ abbrev pub byteRows : List Row
 byteRows =
     row "job A"
     (prints "(job (size 8) (window 4) (cut 2) (gap 1) (bounds 0 5000) (zoom 0 6))\n(rect 3 3 5 5)\n(fill 0 0 2)\n(end)\n")
-    (printedLines
-    ("(exact (max 4 1 1 1) (min 1 0 0 1))"
-    ∷ "(zoom met (levels 2) (floor 4 2 2 1) (ceiling 4) (kept 0))"
-    ∷ "(zoommin exact (levels 4) (low 1) (high 1 0 0 1) (kept 0))"
-    ∷ "(density 2500)"
-    ∷ "(fill safe)"
-    ∷ []))
+    (printedLines linesA)
     ∷ row "empty file" (prints "") (bytes "(refused 12 1)\n")
     ∷ row "one line feed" (prints "\n") (bytes "(refused 2 1)\n")
     ∷ row "no end"
@@ -183,13 +187,7 @@ byteRows =
     (bytes "(refused 11 3)\n")
     ∷ row "D of 0: all but what the dummy covers"
     (prints "(job (size 8) (window 4) (cut 2) (gap 1 0) (bounds 0 5000) (zoom 0 6))\n(dummy 3 3 5 5)\n(fill 1 1 3)\n(end)\n")
-    (printedLines
-    ("(exact (max 4 1 1 1) (min 1 0 0 1))"
-    ∷ "(zoom met (levels 2) (floor 4 2 2 1) (ceiling 4) (kept 0))"
-    ∷ "(zoommin exact (levels 4) (low 1) (high 1 0 0 1) (kept 0))"
-    ∷ "(density 2500)"
-    ∷ "(fill safe)"
-    ∷ []))
+    (printedLines linesA)
     ∷ row "D of 0: a covered square"
     (prints "(job (size 8) (window 4) (cut 2) (gap 1 0) (bounds 0 5000) (zoom 0 6))\n(dummy 3 3 5 5)\n(fill 1 1 4)\n")
     (bytes "(refused 11 3)\n")
@@ -222,13 +220,7 @@ byteRows =
     (bytes "(refused 11 4)\n")
     ∷ row "D is B and no more where the head has one gap"
     (prints "(job (size 8) (window 4) (cut 2) (gap 1) (bounds 0 5000) (zoom 0 6))\n(dummy 3 3 5 5)\n(fill 0 0 4)\n(end)\n")
-    (printedLines
-    ("(exact (max 4 1 1 1) (min 1 0 0 1))"
-    ∷ "(zoom met (levels 2) (floor 4 2 2 1) (ceiling 4) (kept 0))"
-    ∷ "(zoommin exact (levels 4) (low 1) (high 1 0 0 1) (kept 0))"
-    ∷ "(density 2500)"
-    ∷ "(fill safe)"
-    ∷ []))
+    (printedLines linesA)
     ∷ row "a dummy on a dummy"
     (prints "(job (size 8) (window 4) (cut 2) (gap 1 2) (bounds 0 5000) (zoom 0 6))\n(dummy 3 3 5 5)\n(dummy 4 4 6 6)\n")
     (bytes "(refused 9 3)\n")
