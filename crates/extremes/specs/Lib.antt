@@ -1,4 +1,3 @@
 pub mod Exact
 pub mod Listing
 pub mod Search
-pub mod Cases

@@ -5,4 +5,3 @@ pub mod Sizes
 pub mod Free
 pub mod Windows
 pub mod Corners
-pub mod Cases

@@ -11,16 +11,16 @@ use Rattle.laws.proofs.Tests.{le-or-lt}
 use Rattle.geometry.specs.Layout.{Disjoint, Layer}
 use Rattle.fill.specs.Judge.{numberAt}
 use Rattle.fill.proofs.Loads.{tile-fillable}
-use Rattle.jobfile.specs.declared.Form.{Form}
+use Rattle.forms.specs.declared.Form.{Form}
+use Rattle.forms.specs.Limits.{unitLimits}
+use Rattle.forms.specs.Shapes.{rectangles, keepouts}
+use Rattle.forms.specs.Forms.{tileSide, tilesAcross}
+use Rattle.forms.proofs.Heads.{HeadFacts, head-facts, positive}
 use Rattle.jobfile.specs.declared.Turn.the-variants.{Before}
-use Rattle.jobfile.specs.Limits.{unitLimits}
-use Rattle.jobfile.specs.Shapes.{rectangles, keepouts}
-use Rattle.jobfile.specs.Forms.{tileSide, tilesAcross}
 use Rattle.jobfile.specs.Faults.{Standing, roomOf}
 use Rattle.jobfile.specs.File.{accepted, outcomeOf}
 use Rattle.jobfile.specs.Acceptance.{Good, none, next}
 use Rattle.jobfile.specs.Held.{tileCount, Sound, tableOf, padded}
-use Rattle.jobfile.proofs.Heads.{HeadFacts, head-facts, positive}
 use Rattle.jobfile.proofs.Tables.{table-layer}
 use Rattle.jobfile.proofs.Sound.{sound-after, sound-start}
 use Rattle.jobfile.proofs.Files.{acceptance}

@@ -14,21 +14,21 @@ use Rattle.geometry.specs.Layout.{rectsOf}
 use Rattle.fill.specs.Judge.{tileIndex}
 use Rattle.fill.specs.Free.{regionNumbers, withRegion}
 use Rattle.fill.proofs.Grown.{regions-more, regions-length}
-use Rattle.jobfile.specs.declared.Head.{Head}
+use Rattle.forms.specs.declared.Head.{Head}
+use Rattle.forms.specs.declared.Shape.{Shape}
+use Rattle.forms.specs.declared.Form.{Form}
+use Rattle.forms.specs.declared.Form.the-variants.{Unknown, Heading, Metal, Fill, End}
+use Rattle.forms.specs.Limits.{unitLimits}
+use Rattle.forms.specs.Shapes.{keepoutOf, keepouts}
+use Rattle.forms.specs.Forms.{tilesAcross, agrees}
+use Rattle.forms.proofs.Heads.{head-facts, agreement}
 use Rattle.jobfile.specs.declared.Near.{Near}
 use Rattle.jobfile.specs.declared.Near.the-variants.{NoRow}
-use Rattle.jobfile.specs.declared.Shape.{Shape}
 use Rattle.jobfile.specs.declared.State.{State}
-use Rattle.jobfile.specs.declared.Form.{Form}
-use Rattle.jobfile.specs.declared.Form.the-variants.{Unknown, Heading, Metal, Fill, End}
 use Rattle.jobfile.specs.declared.Turn.the-variants.{Before, Shapes, Fills, Done}
-use Rattle.jobfile.specs.Limits.{unitLimits}
-use Rattle.jobfile.specs.Shapes.{keepoutOf, keepouts}
-use Rattle.jobfile.specs.Forms.{tilesAcross, agrees}
 use Rattle.jobfile.specs.Faults.{Standing, beforeHead, noHead, roomOf, lineFault, standsAfter}
 use Rattle.jobfile.specs.Held.{shapesRoom, amountsRoom, tileCount, shapesBy, shapesIn, tableOf, shapesTable, standing}
 use Rattle.jobfile.specs.Held.{ShapesKept, AmountsKept, Held, Storable, withShape, Stored, TileIn, NearHeld, RegionsHeld, Entered}
-use Rattle.jobfile.proofs.Heads.{head-facts, agreement}
 use Rattle.jobfile.proofs.Tables.{corners, zeros, take-zeros, drop-zeros}
 use Rattle.jobfile.proofs.ShapeTables.{table-length, in-table, stored-table}
 use Rattle.jobfile.proofs.Faultless.{check-passes, NoFault, no-fault, no-shape-fault, NoFillFault, no-fill-fault}

@@ -19,22 +19,21 @@ use Rattle.fill.specs.Free.{regionNumbers}
 use Rattle.fill.specs.Judge.{tileIndex, numberAt}
 use Rattle.fill.specs.Sizes.{SmallBox}
 use Rattle.fill.proofs.Grown.{regions-fillable}
-use Rattle.jobfile.specs.declared.Head.{Head}
-use Rattle.jobfile.specs.declared.Form.{Form}
-use Rattle.jobfile.specs.declared.Form.the-variants.{Unknown, Heading, Metal, Fill, End}
-use Rattle.jobfile.specs.declared.Shape.{Shape}
+use Rattle.forms.specs.declared.Head.{Head}
+use Rattle.forms.specs.declared.Form.{Form}
+use Rattle.forms.specs.declared.Form.the-variants.{Unknown, Heading, Metal, Fill, End}
+use Rattle.forms.specs.declared.Shape.{Shape}
+use Rattle.forms.specs.Limits.{unitLimits}
+use Rattle.forms.specs.Shapes.{rectangles, keepouts}
+use Rattle.forms.specs.Forms.{inRange, tileSide, tilesAcross, agrees, rankOf, known, fitsLayout, GoodHead}
+use Rattle.forms.proofs.Heads.{HeadFacts, head-facts, tile-end}
 use Rattle.jobfile.specs.declared.State.{State}
 use Rattle.jobfile.specs.declared.Turn.{Turn}
 use Rattle.jobfile.specs.declared.Turn.the-variants.{Before, Shapes, Fills}
-use Rattle.jobfile.specs.Limits.{unitLimits}
-use Rattle.jobfile.specs.Shapes.{rectangles, keepouts}
-use Rattle.jobfile.specs.Forms.{inRange, tileSide, tilesAcross, agrees}
-use Rattle.jobfile.specs.Faults.{Standing, rankOf, known, inTurn, check, fitsLayout, shapeFault, fillFault, ownFault, lineFault}
-use Rattle.jobfile.specs.Held.{cornersRoom, shapesRoom, amountsRoom, tileCount, shapesIn, standing, tableOf}
-use Rattle.jobfile.specs.Held.{GoodHead, AmountsKept, Held, ShapesHeld, TileIn, RegionsHeld, freeRoom}
+use Rattle.jobfile.specs.Faults.{Standing, inTurn, check, shapeFault, fillFault, ownFault, lineFault}
+use Rattle.jobfile.specs.Held.{cornersRoom, shapesRoom, amountsRoom, tileCount, shapesIn, standing, tableOf, AmountsKept, Held, ShapesHeld, TileIn, RegionsHeld, freeRoom}
 use Rattle.jobfile.proofs.ShapeTables.{rects-by, by-length, table-corners, table-length}
 use Rattle.jobfile.proofs.Tables.{table-layer}
-use Rattle.jobfile.proofs.Heads.{HeadFacts, head-facts, tile-end}
 use Rattle.jobfile.proofs.Sound.{after-head}
 
 -- ---- the turn

@@ -11,12 +11,12 @@ use Rattle.geometry.specs.declared.Rect.{Rect}
 use Rattle.geometry.specs.Layout.{sharesSquare}
 use Rattle.fill.specs.Judge.{numberAt}
 use Rattle.laws.proofs.Tests.{both}
-use Rattle.jobfile.specs.declared.Form.{Form}
-use Rattle.jobfile.specs.declared.Head.{Head}
-use Rattle.jobfile.specs.Limits.{Limits}
-use Rattle.jobfile.specs.Shapes.{rectangles}
-use Rattle.jobfile.specs.Forms.{inRange, tilesAcross}
-use Rattle.jobfile.specs.Faults.{Standing, known, inTurn, check, fitsLayout, shapeFault, fillFault, ownFault, lineFault}
+use Rattle.forms.specs.declared.Form.{Form}
+use Rattle.forms.specs.declared.Head.{Head}
+use Rattle.forms.specs.Limits.{Limits}
+use Rattle.forms.specs.Shapes.{rectangles}
+use Rattle.forms.specs.Forms.{inRange, tilesAcross, known, fitsLayout}
+use Rattle.jobfile.specs.Faults.{Standing, inTurn, check, shapeFault, fillFault, ownFault, lineFault}
 
 -- the test passed, and the tests after it found no fault
 pub check-passes : (passes : Bool) (fault next : ℕ) → 0 < fault → check passes fault next ≡ 0 → (passes ≡ true) × (next ≡ 0)

@@ -13,17 +13,19 @@ use borrow.Author.Tests.{eqb-true, eqb-false, leb-true, leb-false, ltb-true, ltb
 use Rattle.spelling.specs.Text.{inFront, pieces}
 use Rattle.spelling.specs.Decimal.{EachShort}
 use Rattle.spelling.specs.Scanning.{lineLength}
-use Rattle.jobfile.specs.declared.Form.{Form}
+use Rattle.forms.specs.declared.Form.{Form}
+use Rattle.forms.specs.Limits.{Limits}
+use Rattle.forms.specs.Forms.{known}
+use Rattle.forms.specs.Spellings.{numbersOf, spellingOf, Spells, feedless}
+use Rattle.forms.specs.Reading.{formOf}
+use Rattle.forms.proofs.Spelled.{form-spelled, spelling-read, spells-read, feedless-first, spelling-feedless}
 use Rattle.jobfile.specs.declared.Turn.{Turn}
 use Rattle.jobfile.specs.declared.Turn.the-variants.{Before, Shapes, Fills, Done}
-use Rattle.jobfile.specs.Limits.{Limits}
-use Rattle.jobfile.specs.Forms.{formOf}
-use Rattle.jobfile.specs.Faults.{Standing, beforeHead, known, lineFault, standsAfter}
+use Rattle.jobfile.specs.Faults.{Standing, beforeHead, lineFault, standsAfter}
 use Rattle.jobfile.specs.File.{Outcome, refused, accepted, atEnd, afterLast, readLines, outcomeOf}
-use Rattle.jobfile.specs.Acceptance.{numbersOf, spellingOf, Spells, formsText, feedless, Good, none, next, LineFault, spelled, unspelled}
+use Rattle.jobfile.specs.Acceptance.{formsText, Good, none, next, LineFault, spelled, unspelled}
 use Rattle.jobfile.specs.Acceptance.{FirstFault, faulty, unfed, unended, AcceptedFile, RefusedFile, long, lines, Acceptance}
 use Rattle.jobfile.specs.Held.{firstLine, firstFault}
-use Rattle.jobfile.proofs.Spelled.{form-spelled, spelling-read, spells-read, feedless-first, spelling-feedless}
 use Rattle.jobfile.proofs.Faultless.{no-fault}
 use Rattle.jobfile.proofs.Lines.{good-next, bad-next, read-last, good-fed, fed-fault, unfed-fault, line-good, line-bad, too-long, short-enough}
 

@@ -3,12 +3,9 @@ pub mod ShapeTables
 pub mod Faultless
 pub mod Sound
 pub mod Entering
-pub mod Heads
 pub mod Rows
 pub mod Faulting
-pub mod Reading
 pub mod Lines
-pub mod Spelled
 pub mod Files
 pub mod Widening
 pub mod SameGaps

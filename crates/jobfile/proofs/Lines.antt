@@ -13,8 +13,10 @@ use Rattle.geometry.specs.Layout.{rectsOf}
 use Rattle.spelling.specs.Text.{inFront, pieces}
 use Rattle.spelling.specs.Scanning.{lineLength}
 use Rattle.spelling.proofs.Lines.{pieces-line, pieces-last}
-use Rattle.jobfile.specs.declared.Head.{Head}
-use Rattle.jobfile.specs.declared.Form.{Form}
+use Rattle.forms.specs.declared.Head.{Head}
+use Rattle.forms.specs.declared.Form.{Form}
+use Rattle.forms.specs.Limits.{Limits, unitLimits}
+use Rattle.forms.specs.Reading.{formOf}
 use Rattle.jobfile.specs.declared.Near.the-variants.{NoRow}
 use Rattle.jobfile.specs.declared.State.{State}
 use Rattle.jobfile.specs.declared.Step.{Step}
@@ -22,8 +24,6 @@ use Rattle.jobfile.specs.declared.Ending.{Ending}
 use Rattle.jobfile.specs.declared.Job.{Job}
 use Rattle.jobfile.specs.declared.Turn.{Turn}
 use Rattle.jobfile.specs.declared.Turn.the-variants.{Before, Shapes, Fills, Done}
-use Rattle.jobfile.specs.Limits.{Limits, unitLimits}
-use Rattle.jobfile.specs.Forms.{formOf}
 use Rattle.jobfile.specs.Faults.{Standing, beforeHead, noHead, lineFault, standsAfter}
 use Rattle.jobfile.specs.File.{Outcome, refused, atEnd, afterLast, readLines, outcomeOf}
 use Rattle.jobfile.specs.Held.{amountsRoom, tileCount, shapesBy, shapesIn, standing, tableOf, padded, AmountsKept, Held, Cleared, Entered, firstLine, firstFault, LineRead, endFault, jobOf, asJob}

@@ -13,14 +13,14 @@ use Rattle.fill.specs.declared.Part.{Part}
 use Rattle.fill.specs.Eligible.{tile}
 use Rattle.fill.specs.Free.{regionNumbers, Serves}
 use Rattle.fill.proofs.Near.{all-serves, serves-inside}
-use Rattle.jobfile.specs.declared.Head.{Head}
+use Rattle.forms.specs.declared.Head.{Head}
+use Rattle.forms.specs.Limits.{unitLimits}
+use Rattle.forms.specs.Forms.{tileSide, tilesAcross, GoodHead}
+use Rattle.forms.proofs.Heads.{head-facts, tile-end}
 use Rattle.jobfile.specs.declared.Near.{Near}
 use Rattle.jobfile.specs.declared.Near.the-variants.{NoRow, Row}
 use Rattle.jobfile.specs.declared.State.{State}
-use Rattle.jobfile.specs.Limits.{unitLimits}
-use Rattle.jobfile.specs.Forms.{tileSide, tilesAcross}
-use Rattle.jobfile.specs.Held.{GoodHead, TileIn, rowBox, NearHeld, isRow, partFor, RegionsHeld}
-use Rattle.jobfile.proofs.Heads.{head-facts, tile-end}
+use Rattle.jobfile.specs.Held.{TileIn, rowBox, NearHeld, isRow, partFor, RegionsHeld}
 
 -- ---- which part, by the tests
 

@@ -12,26 +12,27 @@ use Rattle.spelling.specs.Text.{pieces}
 use Rattle.spelling.specs.Decimal.{EachShort}
 use Rattle.fill.specs.declared.Keepout.{Keepout}
 use Rattle.fill.specs.Eligible.{tile, fillableArea}
-use Rattle.jobfile.specs.declared.Form.{Form}
-use Rattle.jobfile.specs.declared.Form.the-variants.{Unknown, Heading, Metal, Fill, End}
-use Rattle.jobfile.specs.declared.Gap.{Gap}
-use Rattle.jobfile.specs.declared.Head.{Head}
-use Rattle.jobfile.specs.declared.Kind.{Kind}
-use Rattle.jobfile.specs.declared.Kind.the-variants.{Drawn, Dummy}
-use Rattle.jobfile.specs.declared.Shape.{Shape}
+use Rattle.forms.specs.declared.Form.{Form}
+use Rattle.forms.specs.declared.Form.the-variants.{Unknown, Heading, Metal, Fill, End}
+use Rattle.forms.specs.declared.Gap.{Gap}
+use Rattle.forms.specs.declared.Head.{Head}
+use Rattle.forms.specs.declared.Kind.{Kind}
+use Rattle.forms.specs.declared.Kind.the-variants.{Drawn, Dummy}
+use Rattle.forms.specs.declared.Shape.{Shape}
+use Rattle.forms.specs.Limits.{Limits}
+use Rattle.forms.specs.Shapes.{gapFor, keepoutOf, keepouts}
+use Rattle.forms.specs.Forms.{gapInRange, inRange, tileSide, known}
+use Rattle.forms.specs.Spellings.{numbersOf, spellingOf, withGap}
+use Rattle.forms.specs.Reading.{formOf}
+use Rattle.forms.proofs.Spelled.{form-spelled, spelling-read, spelling-feedless}
 use Rattle.jobfile.specs.declared.Turn.{Turn}
 use Rattle.jobfile.specs.declared.Turn.the-variants.{Before, Shapes, Fills, Done}
-use Rattle.jobfile.specs.Limits.{Limits}
-use Rattle.jobfile.specs.Shapes.{gapFor, keepoutOf, keepouts}
-use Rattle.jobfile.specs.Forms.{gapInRange, inRange, tileSide, formOf}
-use Rattle.jobfile.specs.Faults.{Standing, beforeHead, known, check, inTurn, shapeFault, fillFault, lineFault, standsAfter}
+use Rattle.jobfile.specs.Faults.{Standing, beforeHead, check, inTurn, shapeFault, fillFault, lineFault, standsAfter}
 use Rattle.jobfile.specs.File.{Outcome, refused, atEnd, afterLast, readLines, outcomeOf}
-use Rattle.jobfile.specs.Acceptance.{numbersOf, spellingOf}
-use Rattle.jobfile.specs.Gaps.{withGap, standingWith, outcomeWith, fileWith, NoDummy, GapsDecide}
+use Rattle.jobfile.specs.Gaps.{standingWith, outcomeWith, fileWith, NoDummy, GapsDecide}
 use Rattle.jobfile.proofs.Faultless.{no-fault}
 use Rattle.jobfile.proofs.Sound.{heading-turn}
 use Rattle.jobfile.proofs.Lines.{read-next, short-enough}
-use Rattle.jobfile.proofs.Spelled.{form-spelled, spelling-read, spelling-feedless}
 use Rattle.jobfile.proofs.Files.{pieces-first}
 
 -- a form is no shape for which the gaps differ

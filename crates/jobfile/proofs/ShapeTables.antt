@@ -10,11 +10,11 @@ use Rattle.geometry.specs.declared.Rect.{Rect}
 use Rattle.geometry.specs.Layout.{rectsOf, withRect}
 use Rattle.geometry.proofs.Tables.{fourOf, stored-split}
 use Rattle.spelling.proofs.Progress.{filled-more}
-use Rattle.jobfile.specs.declared.Kind.{Kind}
-use Rattle.jobfile.specs.declared.Kind.the-variants.{Drawn, Dummy}
-use Rattle.jobfile.specs.declared.Shape.{Shape}
-use Rattle.jobfile.specs.Limits.{unitLimits}
-use Rattle.jobfile.specs.Shapes.{rectangles}
+use Rattle.forms.specs.declared.Kind.{Kind}
+use Rattle.forms.specs.declared.Kind.the-variants.{Drawn, Dummy}
+use Rattle.forms.specs.declared.Shape.{Shape}
+use Rattle.forms.specs.Limits.{unitLimits}
+use Rattle.forms.specs.Shapes.{rectangles}
 use Rattle.jobfile.specs.Held.{cornersRoom, shapesRoom, kindNumber, kindOf, kindsOf, shapesBy, shapesIn, tableOf, padded, shapesTable, withShape}
 use Rattle.jobfile.proofs.Tables.{length-table, rects-of-table, table-more, zeros}
 

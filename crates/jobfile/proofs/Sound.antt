@@ -14,16 +14,16 @@ use Rattle.geometry.specs.Layout.{Disjoint}
 use Rattle.geometry.proofs.Sharing.{shares-none}
 use Rattle.geometry.proofs.Tables.{disjoint-more}
 use Rattle.fill.specs.Judge.{tileIndex, numberAt}
-use Rattle.jobfile.specs.declared.Head.{Head}
-use Rattle.jobfile.specs.declared.Form.{Form}
-use Rattle.jobfile.specs.declared.Form.the-variants.{Unknown, Heading, Metal, Fill, End}
-use Rattle.jobfile.specs.declared.Shape.{Shape}
+use Rattle.forms.specs.declared.Head.{Head}
+use Rattle.forms.specs.declared.Form.{Form}
+use Rattle.forms.specs.declared.Form.the-variants.{Unknown, Heading, Metal, Fill, End}
+use Rattle.forms.specs.declared.Shape.{Shape}
+use Rattle.forms.specs.Limits.{unitLimits}
+use Rattle.forms.specs.Shapes.{rectangles}
+use Rattle.forms.specs.Forms.{rectInRange, tilesAcross, agrees, fitsLayout}
 use Rattle.jobfile.specs.declared.Turn.{Turn}
 use Rattle.jobfile.specs.declared.Turn.the-variants.{Before, Shapes, Fills, Done}
-use Rattle.jobfile.specs.Limits.{unitLimits}
-use Rattle.jobfile.specs.Shapes.{rectangles}
-use Rattle.jobfile.specs.Forms.{rectInRange, tilesAcross, agrees}
-use Rattle.jobfile.specs.Faults.{Standing, beforeHead, inTurn, fitsLayout, roomOf, lineFault, standsAfter}
+use Rattle.jobfile.specs.Faults.{Standing, beforeHead, inTurn, roomOf, lineFault, standsAfter}
 use Rattle.jobfile.specs.Held.{tileCount, GoodShapes, Sound}
 use Rattle.jobfile.proofs.Faultless.{check-passes, NoFault, no-fault, NoShapeFault, no-shape-fault, NoFillFault, no-fill-fault}
 use Rattle.jobfile.proofs.Tables.{getD-zeros}

@@ -11,11 +11,11 @@ use Rattle.laws.proofs.Tests.{both}
 use Rattle.geometry.specs.declared.Rect.{Rect}
 use Rattle.geometry.specs.Layout.{rectsOf, Disjoint, Layer}
 use Rattle.geometry.proofs.Tables.{fourOf}
-use Rattle.jobfile.specs.declared.Head.{Head}
-use Rattle.jobfile.specs.Limits.{Limits, unitLimits}
-use Rattle.jobfile.specs.Forms.{inSpan, rectInRange}
+use Rattle.forms.specs.declared.Head.{Head}
+use Rattle.forms.specs.Limits.{Limits, unitLimits}
+use Rattle.forms.specs.Forms.{inSpan, rectInRange}
+use Rattle.forms.proofs.Heads.{Between, between}
 use Rattle.jobfile.specs.Held.{GoodShapes, tableOf}
-use Rattle.jobfile.proofs.Heads.{Between, between}
 
 -- ---- tables of rectangles
 

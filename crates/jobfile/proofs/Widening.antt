@@ -10,18 +10,19 @@ use borrow.Author.Tests.{le-leb, leb-true}
 use Rattle.spelling.specs.Decimal.{EachShort}
 use Rattle.laws.proofs.Tests.{both}
 use Rattle.geometry.specs.declared.Rect.{Rect}
-use Rattle.jobfile.specs.declared.Head.{Head}
-use Rattle.jobfile.specs.declared.Form.{Form}
-use Rattle.jobfile.specs.declared.Form.the-variants.{Unknown, Heading, Metal, Fill, End}
-use Rattle.jobfile.specs.declared.Gap.{Gap}
-use Rattle.jobfile.specs.declared.Gap.the-variants.{Both, Each}
-use Rattle.jobfile.specs.declared.Kind.the-variants.{Drawn, Dummy}
-use Rattle.jobfile.specs.Limits.{Limits, Widened}
-use Rattle.jobfile.specs.Forms.{inSpan, gapInRange, headInRange, rectInRange, fillInRange, inRange, tileSide, tilesAcross, agrees}
+use Rattle.forms.specs.declared.Head.{Head}
+use Rattle.forms.specs.declared.Form.{Form}
+use Rattle.forms.specs.declared.Form.the-variants.{Unknown, Heading, Metal, Fill, End}
+use Rattle.forms.specs.declared.Gap.{Gap}
+use Rattle.forms.specs.declared.Gap.the-variants.{Both, Each}
+use Rattle.forms.specs.declared.Kind.the-variants.{Drawn, Dummy}
+use Rattle.forms.specs.Limits.{Limits, Widened}
+use Rattle.forms.specs.Forms.{inSpan, gapInRange, headInRange, rectInRange, fillInRange, inRange, tileSide, tilesAcross, agrees}
+use Rattle.forms.specs.Spellings.{numbersOf}
+use Rattle.forms.proofs.Heads.{Between, between, gap-between, ranges}
 use Rattle.jobfile.specs.Faults.{Standing, lineFault, ownFault}
-use Rattle.jobfile.specs.Acceptance.{numbersOf, Good, none, next, AcceptedFile, Widening}
+use Rattle.jobfile.specs.Acceptance.{Good, none, next, AcceptedFile, Widening}
 use Rattle.jobfile.proofs.Faultless.{check-passes, no-fault, faultless, no-shape-fault, shape-faultless}
-use Rattle.jobfile.proofs.Heads.{Between, between, gap-between, ranges}
 use Rattle.jobfile.proofs.Tables.{corners}
 use Rattle.jobfile.proofs.Files.{acceptance}
 

@@ -2,62 +2,23 @@
 -- has a first fault. `Acceptance` says that `outcomeOf` gives just this, so a buyer need not follow `formOf` and `readLines`.
 use Prim.Native.Nat.{ℕ, _+_, _≤_, _<_}
 use mathlib.Core.Path.{_≡_}
-use mathlib.Core.Bool.{Bool, true, not, _&&_}
+use mathlib.Core.Bool.{true}
 use mathlib.Core.List.{List, [], _∷_, _++_}
-use lib.Dec.{eqb}
 use lib.ListN.{length}
 use Rattle.spelling.specs.Decimal.{EachShort}
-use Rattle.spelling.specs.Pattern.{spell}
-use Rattle.jobfile.specs.declared.Form.{Form}
-use Rattle.jobfile.specs.declared.Form.the-variants.{Unknown, Heading, Metal, Fill, End}
-use Rattle.jobfile.specs.declared.Gap.{Gap}
-use Rattle.jobfile.specs.declared.Gap.the-variants.{Both, Each}
+use Rattle.forms.specs.declared.Form.{Form}
+use Rattle.forms.specs.Limits.{Limits, Widened}
+use Rattle.forms.specs.Spellings.{numbersOf, spellingOf, Spells, feedless}
 use Rattle.jobfile.specs.declared.Turn.the-variants.{Done}
-use Rattle.jobfile.specs.Limits.{Limits, Widened}
-use Rattle.jobfile.specs.Forms.{headPattern, shapePattern, fillPattern, endPattern}
-use Rattle.jobfile.specs.Faults.{Standing, beforeHead, known, lineFault, standsAfter}
+use Rattle.jobfile.specs.Faults.{Standing, beforeHead, lineFault, standsAfter}
 use Rattle.jobfile.specs.File.{refused, accepted, outcomeOf}
 
--- ---- the spelling of a form
-
--- the gaps, in front of the numbers that follow them
-abbrev pub gapNumbers : Gap → List ℕ → List ℕ
-gapNumbers (Both b) ns = b ∷ ns
-gapNumbers (Each b d) ns = b ∷ d ∷ ns
-
--- the numbers of a form, in the order of its spelling
-abbrev pub numbersOf : Form → List ℕ
-numbersOf Unknown = []
-numbersOf (Heading h) = h .size ∷ h .window ∷ h .cut ∷ gapNumbers (h .gap) (h .lower ∷ h .upper ∷ h .accuracy ∷ h .levels ∷ [])
-numbersOf (Metal s) = s .rect .x1 ∷ s .rect .y1 ∷ s .rect .x2 ∷ s .rect .y2 ∷ []
-numbersOf (Fill i j p) = i ∷ j ∷ p ∷ []
-numbersOf End = []
-
--- the spelling of a form, without the line feed; a line that is none of the spellings has none
-unfoldable pub spellingOf : Form → List ℕ
-spellingOf Unknown = []
-spellingOf (Heading h) = spell (headPattern (h .gap)) (numbersOf (Heading h))
-spellingOf (Metal s) = spell (shapePattern (s .kind)) (numbersOf (Metal s))
-spellingOf (Fill i j p) = spell fillPattern (numbersOf (Fill i j p))
-spellingOf End = spell endPattern []
-
--- a line spells a form: it is the form's spelling, and no number has too many digits
-pub record Spells (limits : Limits) (line : List ℕ) (f : Form) : Type 0 where
-  pub is-known : known f ≡ true
-  pub spelling : line ≡ spellingOf f
-  pub short : EachShort (limits .digits) (numbersOf f)
+-- ---- good forms, and faults
 
 -- the text of forms: each one's spelling with its line feed
 unfoldable pub formsText : List Form → List ℕ
 formsText [] = []
 formsText (f ∷ fs) = spellingOf f ++ (10 ∷ formsText fs)
-
--- a text without a line feed
-unfoldable pub feedless : List ℕ → Bool
-feedless [] = true
-feedless (b ∷ s) = not (eqb b 10) && feedless s
-
--- ---- good forms, and faults
 
 -- every form is good where it stands: from the first standing they lead to the second
 pub data Good (limits : Limits) : Standing → List Form → Standing → Type 0 where

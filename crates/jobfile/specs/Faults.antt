@@ -8,16 +8,16 @@ use Rattle.geometry.specs.declared.Rect.{Rect}
 use Rattle.geometry.specs.Layout.{sharesSquare}
 use Rattle.fill.specs.Eligible.{tile, fillableArea}
 use Rattle.fill.specs.Judge.{tileIndex, numberAt}
-use Rattle.jobfile.specs.declared.Head.{Head}
-use Rattle.jobfile.specs.declared.Form.{Form}
-use Rattle.jobfile.specs.declared.Form.the-variants.{Unknown, Heading, Metal, Fill, End}
-use Rattle.jobfile.specs.declared.Gap.the-variants.{Both}
-use Rattle.jobfile.specs.declared.Shape.{Shape}
+use Rattle.forms.specs.declared.Head.{Head}
+use Rattle.forms.specs.declared.Form.{Form}
+use Rattle.forms.specs.declared.Form.the-variants.{Unknown, Heading, Metal, Fill, End}
+use Rattle.forms.specs.declared.Gap.the-variants.{Both}
+use Rattle.forms.specs.declared.Shape.{Shape}
+use Rattle.forms.specs.Limits.{Limits}
+use Rattle.forms.specs.Shapes.{rectangles, keepouts}
+use Rattle.forms.specs.Forms.{rankOf, known, inRange, tileSide, tilesAcross, agrees, fitsLayout}
 use Rattle.jobfile.specs.declared.Turn.{Turn}
 use Rattle.jobfile.specs.declared.Turn.the-variants.{Before, Shapes, Fills, Done}
-use Rattle.jobfile.specs.Limits.{Limits}
-use Rattle.jobfile.specs.Shapes.{rectangles, keepouts}
-use Rattle.jobfile.specs.Forms.{inRange, tileSide, tilesAcross, agrees}
 
 -- what already stands: the turn, the head, the shapes in file order, the amounts row by row
 pub record Standing : Type 0 where
@@ -33,18 +33,6 @@ noHead = record { size = 0; window = 0; cut = 0; gap = Both 0; lower = 0; upper 
 abbrev pub beforeHead : Standing
 beforeHead = record { turn = Before; head = noHead; shapes = []; amounts = [] }
 
--- where a form comes in a file; 0 for a line that is none of the spellings
-abbrev pub rankOf : Form → ℕ
-rankOf Unknown = 0
-rankOf (Heading h) = 1
-rankOf (Metal s) = 2
-rankOf (Fill i j p) = 3
-rankOf End = 4
-
--- whether a line is one of the spellings
-abbrev pub known : Form → Bool
-known f = ltb 0 (rankOf f)
-
 -- whether a form comes in turn: the head first and once, then shapes, then fills, then the end, and nothing after it
 abbrev pub inTurn : Turn → Form → Bool
 inTurn Before f = eqb (rankOf f) 1
@@ -55,10 +43,6 @@ inTurn Done f = false
 -- a test for a fault: the fault's number where it fails, else what the tests after it give
 abbrev pub check : (passes : Bool) (fault next : ℕ) → ℕ
 check passes fault next = elim passes [ true ↦ next | false ↦ fault ]
-
--- X1 < X2, Y1 < Y2, and X2 and Y2 at most N
-abbrev pub fitsLayout : Head → Rect → Bool
-fitsLayout h r = (ltb (r .x1) (r .x2) && ltb (r .y1) (r .y2)) && (leb (r .x2) (h .size) && leb (r .y2) (h .size))
 
 -- the faults of a shape of either kind
 unfoldable pub shapeFault : Limits → Standing → Rect → ℕ

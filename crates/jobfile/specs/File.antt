@@ -5,10 +5,10 @@ use mathlib.Core.List.{List, [], _∷_}
 use lib.Dec.{leb, eqb}
 use lib.ListN.{length}
 use Rattle.spelling.specs.Text.{pieces}
+use Rattle.forms.specs.Limits.{Limits}
+use Rattle.forms.specs.Reading.{formOf}
 use Rattle.jobfile.specs.declared.Turn.{Turn}
 use Rattle.jobfile.specs.declared.Turn.the-variants.{Before, Shapes, Fills, Done}
-use Rattle.jobfile.specs.Limits.{Limits}
-use Rattle.jobfile.specs.Forms.{formOf}
 use Rattle.jobfile.specs.Faults.{Standing, beforeHead, lineFault, standsAfter}
 
 -- what a file comes to: the number and line of its first fault, or what stands at its end

@@ -8,31 +8,17 @@ use mathlib.Core.Logic.{_⊎_}
 use lib.ListN.{length}
 use Rattle.spelling.specs.Text.{pieces}
 use Rattle.spelling.specs.Decimal.{EachShort}
-use Rattle.jobfile.specs.declared.Form.the-variants.{Heading, Metal}
-use Rattle.jobfile.specs.declared.Gap.{Gap}
-use Rattle.jobfile.specs.declared.Head.{Head}
-use Rattle.jobfile.specs.declared.Kind.the-variants.{Drawn, Dummy}
-use Rattle.jobfile.specs.declared.Shape.{Shape}
-use Rattle.jobfile.specs.Limits.{Limits}
-use Rattle.jobfile.specs.Shapes.{gapFor}
-use Rattle.jobfile.specs.Forms.{gapInRange}
+use Rattle.forms.specs.declared.Form.the-variants.{Heading, Metal}
+use Rattle.forms.specs.declared.Gap.{Gap}
+use Rattle.forms.specs.declared.Head.{Head}
+use Rattle.forms.specs.declared.Kind.the-variants.{Drawn, Dummy}
+use Rattle.forms.specs.declared.Shape.{Shape}
+use Rattle.forms.specs.Limits.{Limits}
+use Rattle.forms.specs.Shapes.{gapFor}
+use Rattle.forms.specs.Forms.{gapInRange}
+use Rattle.forms.specs.Spellings.{withGap, numbersOf, spellingOf, Spells}
 use Rattle.jobfile.specs.Faults.{Standing}
 use Rattle.jobfile.specs.File.{Outcome, refused, accepted, outcomeOf}
-use Rattle.jobfile.specs.Acceptance.{numbersOf, spellingOf, Spells}
-
--- a head that says something else of gaps
-abbrev pub withGap : Head → Gap → Head
-withGap h g =
-    record {
-      size = h .size;
-      window = h .window;
-      cut = h .cut;
-      gap = g;
-      lower = h .lower;
-      upper = h .upper;
-      accuracy = h .accuracy;
-      levels = h .levels;
-    }
 
 -- what stands, and what a file comes to, under such a head
 abbrev pub standingWith : Gap → Standing → Standing

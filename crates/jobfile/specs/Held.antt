@@ -14,11 +14,15 @@ use Rattle.fill.specs.Eligible.{tile}
 use Rattle.fill.specs.Free.{regionNumbers, Regions, withRegion, freeIn, Serves}
 use Rattle.fill.specs.Judge.{numberAt}
 use Rattle.fill.specs.Sizes.{SmallKeepout}
-use Rattle.jobfile.specs.declared.Head.{Head}
-use Rattle.jobfile.specs.declared.Kind.{Kind}
-use Rattle.jobfile.specs.declared.Kind.the-variants.{Drawn, Dummy}
-use Rattle.jobfile.specs.declared.Shape.{Shape}
-use Rattle.jobfile.specs.declared.Form.{Form}
+use Rattle.forms.specs.declared.Head.{Head}
+use Rattle.forms.specs.declared.Kind.{Kind}
+use Rattle.forms.specs.declared.Kind.the-variants.{Drawn, Dummy}
+use Rattle.forms.specs.declared.Shape.{Shape}
+use Rattle.forms.specs.declared.Form.{Form}
+use Rattle.forms.specs.Limits.{Limits, unitLimits}
+use Rattle.forms.specs.Shapes.{rectangles, keepoutOf, keepouts}
+use Rattle.forms.specs.Forms.{GoodHead, rectInRange, fitsLayout, tileSide, tilesAcross}
+use Rattle.forms.specs.Reading.{formOf}
 use Rattle.jobfile.specs.declared.Turn.{Turn}
 use Rattle.jobfile.specs.declared.Turn.the-variants.{Before, Shapes, Fills, Done}
 use Rattle.jobfile.specs.declared.Near.{Near}
@@ -27,10 +31,7 @@ use Rattle.jobfile.specs.declared.State.{State}
 use Rattle.jobfile.specs.declared.Step.{Step}
 use Rattle.jobfile.specs.declared.Ending.{Ending}
 use Rattle.jobfile.specs.declared.Job.{Job}
-use Rattle.jobfile.specs.Limits.{Limits, unitLimits}
-use Rattle.jobfile.specs.Shapes.{rectangles, keepoutOf, keepouts}
-use Rattle.jobfile.specs.Forms.{formOf, headInRange, rectInRange, tileSide, tilesAcross, agrees}
-use Rattle.jobfile.specs.Faults.{Standing, beforeHead, noHead, fitsLayout, roomOf, lineFault, standsAfter}
+use Rattle.jobfile.specs.Faults.{Standing, beforeHead, noHead, roomOf, lineFault, standsAfter}
 use Rattle.jobfile.specs.File.{Outcome, refused, accepted}
 
 -- the numbers that the tables have room for: four to a shape for its corners, and behind all of these one to a shape for its kind; those of a region to
@@ -74,11 +75,6 @@ shapesIn n table = shapesBy (rectsOf (take (4 * n) table)) (drop cornersRoom tab
 abbrev pub standing : State → (shapes amounts : List ℕ) → Standing
 standing s shapes amounts =
     record { turn = s .turn; head = s .head; shapes = shapesIn (s .count) shapes; amounts = take (tileCount (s .head)) amounts }
-
--- a head that was good
-pub record GoodHead (h : Head) : Type 0 where
-  pub range : headInRange unitLimits h ≡ true
-  pub agreement : agrees unitLimits h ≡ true
 
 -- every rectangle was in range and fits the layout
 unfoldable pub GoodShapes : Head → List Rect → Type 0

@@ -1,6 +1,3 @@
-pub mod Limits
-pub mod Shapes
-pub mod Forms
 pub mod Faults
 pub mod File
 pub mod Acceptance

@@ -1,47 +1,30 @@
 // The faults of one line, by what already stands.
-use crate::Form;
-use crate::Head;
 use crate::State;
 use crate::Turn;
-use crate::forms::both;
-use crate::forms::head_agrees;
-use crate::forms::in_range;
-use crate::forms::tile_side;
-use crate::forms::tiles_across;
 use crate::held::tile_place;
-use crate::limits::MOST_SHAPES;
 use crate::parts::part_for;
 use fill::REGION_NUMBERS;
 use fill::fillable;
 use fill::tile_box;
+use forms::Form;
+use forms::Head;
+use forms::MOST_SHAPES;
+use forms::fits_layout;
+use forms::head_agrees;
+use forms::in_range;
+use forms::rank;
+use forms::tile_side;
+use forms::tiles_across;
 use geometry::Rect;
 use geometry::shares_square;
 ghost use mathlib.Core.Path.{_≡_};
 ghost use mathlib.Core.Bool.{true};
 ghost use mathlib.Core.List.{[]};
 ghost use lib.ListN.{take};
-ghost use Rattle.jobfile.specs.Limits.{unitLimits};
-ghost use Rattle.jobfile.specs.Forms.{agrees};
-ghost use Rattle.jobfile.specs.Faults.{rankOf, known, inTurn, check, fitsLayout, shapeFault, fillFault, ownFault, lineFault};
+ghost use Rattle.forms.specs.Limits.{unitLimits};
+ghost use Rattle.forms.specs.Forms.{known, agrees};
+ghost use Rattle.jobfile.specs.Faults.{inTurn, check, shapeFault, fillFault, ownFault, lineFault};
 ghost use Rattle.jobfile.specs.Held.{tileCount, standing, AmountsKept, Held, ShapesHeld, TileIn, RegionsHeld, freeRoom};
-
-// Where a form comes in a file: the head, shapes, fills, the end; 0 for a
-// line that is none of the spellings.
-fn rank(f: Form) -> u64
-    ensures { λ r. ⌜ r ≡ rankOf f ⌝ }
-{
-    match f {
-        Form::Unknown => 0,
-        Form::Heading(_) => 1,
-        Form::Metal(_) => 2,
-        Form::Fill {
-            column: _,
-            row: _,
-            amount: _,
-        } => 3,
-        Form::End => 4,
-    }
-}
 
 fn is_known(f: Form) -> bool
     ensures { λ r. ⌜ r ≡ known f ⌝ }
@@ -60,15 +43,6 @@ fn in_turn(t: Turn, f: Form) -> bool
         Turn::Fills => 3 <= n,
         Turn::Done => false,
     }
-}
-
-// A rectangle has its corners in order and lies in the layout.
-fn fits_layout(h: Head, r: Rect) -> bool
-    ensures { λ t. ⌜ t ≡ fitsLayout h r ⌝ }
-{
-    let ordered = both(r.x1 < r.x2, r.y1 < r.y2);
-    let inside = both(r.x2 <= h.size, r.y2 <= h.size);
-    both(ordered, inside)
 }
 
 // The faults of a shape; its kind and the amounts play no part in them.

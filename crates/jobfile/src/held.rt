@@ -1,27 +1,27 @@
 // What stands, held in a state and lent tables.
-use crate::Form;
-use crate::Gap;
-use crate::Head;
 use crate::Near;
-use crate::Shape;
 use crate::State;
 use crate::Turn;
-use crate::forms::tiles_across;
-use crate::limits::CORNERS_ROOM;
 use crate::parts::near_row;
-use crate::shapes::gap_for;
-use crate::shapes::kind_number;
+use crate::rooms::CORNERS_ROOM;
 use fill::Keepout;
 use fill::keep_out;
+use forms::Form;
+use forms::Gap;
+use forms::Head;
+use forms::Kind;
+use forms::Shape;
+use forms::gap_for;
+use forms::tiles_across;
 use geometry::store_rect;
 ghost use mathlib.Core.Path.{_≡_};
 ghost use Prim.Native.Nat.{_<_};
 ghost use lib.ListN.{length, set};
 ghost use Rattle.fill.specs.Judge.{tileIndex};
-ghost use Rattle.jobfile.specs.Limits.{unitLimits};
-ghost use Rattle.jobfile.specs.Forms.{tilesAcross};
+ghost use Rattle.forms.specs.Limits.{unitLimits};
+ghost use Rattle.forms.specs.Forms.{tilesAcross};
 ghost use Rattle.jobfile.specs.Faults.{noHead, lineFault};
-ghost use Rattle.jobfile.specs.Held.{standing, Held, TileIn, Storable, Stored, Entered};
+ghost use Rattle.jobfile.specs.Held.{kindNumber, standing, Held, TileIn, Storable, Stored, Entered};
 
 // Before the head.
 pub(crate) fn no_head() -> Head
@@ -46,6 +46,16 @@ pub(crate) fn tile_place(h: Head, i: u64, j: u64) -> usize
 {
     let across = tiles_across(h);
     (j * across + i) as usize
+}
+
+// A kind in a table.
+fn kind_number(kind: Kind) -> u64
+    ensures { λ r. ⌜ r ≡ kindNumber kind ⌝ }
+{
+    match kind {
+        Kind::Drawn => 0,
+        Kind::Dummy => 1,
+    }
 }
 
 // Stores a shape behind those that stand, and the region that it keeps free of

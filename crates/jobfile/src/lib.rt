@@ -1,66 +1,22 @@
-// The job file: its forms, its faults and its reader.
+// The job file: the faults of its lines, and its reader.
 mod faults;
-mod forms;
 mod held;
-mod limits;
 mod parts;
 mod reader;
-mod shapes;
+mod rooms;
 
 use fill::Part;
-pub use forms::plan_of;
-pub use forms::tile_count;
-use geometry::Rect;
-use limits::AMOUNTS_ROOM;
-use limits::MOST_BYTES;
-use limits::REGIONS_ROOM;
-use limits::SHAPES_ROOM;
+use forms::Head;
+use forms::MOST_BYTES;
 use reader::read_lines;
 use reader::refusal;
+use rooms::AMOUNTS_ROOM;
+use rooms::REGIONS_ROOM;
+use rooms::SHAPES_ROOM;
 ghost use mathlib.Core.Path.{_≡_};
-ghost use Rattle.jobfile.specs.Limits.{unitLimits};
+ghost use Rattle.forms.specs.Limits.{unitLimits};
 ghost use Rattle.jobfile.specs.File.{outcomeOf};
 ghost use Rattle.jobfile.specs.Held.{asJob};
-
-// What the head says of the least gap between fill and metal: (gap B), the same for
-// drawn metal and for dummies, or (gap B D), B for drawn metal and D for dummies.
-pub enum Gap {
-    Both(u64),
-    Each(u64, u64),
-}
-
-// The numbers of the head, in the order of their spelling.
-pub struct Head {
-    pub size: u64, // N, the side of the layout
-    pub window: u64, // W, the side of the window
-    pub cut: u64, // R, the tiles across a window
-    pub gap: Gap, // B and D, the least gaps between fill and metal
-    pub lower: u64, // L, a bound in ten-thousandths
-    pub upper: u64, // U, a bound in ten-thousandths
-    pub accuracy: u64, // E, in thousandths
-    pub levels: u64, // V, the levels that each quick run may do
-}
-
-// Metal that is drawn, or a dummy of an earlier pass.
-pub enum Kind {
-    Drawn,
-    Dummy,
-}
-
-// A rectangle of metal, with its kind.
-pub struct Shape {
-    pub kind: Kind,
-    pub rect: Rect,
-}
-
-// What a line spells. Unknown is a line that is none of the spellings.
-pub enum Form {
-    Unknown,
-    Heading(Head),
-    Metal(Shape),
-    Fill { column: u64, row: u64, amount: u64 },
-    End,
-}
 
 // What a file has come to: nothing yet, its shapes, its fills, its end.
 pub enum Turn {

@@ -2,16 +2,16 @@
 // fills of a row are counted by the regions that come near it.
 use crate::Near;
 use crate::State;
-use crate::forms::tile_side;
 use fill::Part;
 use fill::REGION_NUMBERS;
 use fill::part_near;
+use forms::tile_side;
 use geometry::Rect;
 ghost use mathlib.Core.Path.{_≡_};
 ghost use Prim.Native.Nat.{_*_, _<_};
 ghost use lib.ListN.{take};
 ghost use Rattle.fill.specs.Free.{regionNumbers};
-ghost use Rattle.jobfile.specs.Forms.{tilesAcross};
+ghost use Rattle.forms.specs.Forms.{tilesAcross};
 ghost use Rattle.jobfile.specs.Held.{isRow, partFor, NearHeld, RegionsHeld};
 
 // The part of the table that is enough for the tiles of a row: the one at hand, if

@@ -2,15 +2,15 @@
 // the answer, so that no phase can be left out.
 use extremes::Extremes;
 use fill::Verdict;
+use forms::Head;
 use geometry::Sense;
 use geometry::Spot;
-use jobfile::Head;
 use jobfile::Job;
 use sweep::ORDER_ROOM;
 use zoom::Asked;
 ghost use mathlib.Core.Path.{_≡_};
 ghost use Rattle.geometry.specs.Layout.{rectsOf};
-ghost use Rattle.jobfile.specs.Limits.{unitLimits};
+ghost use Rattle.forms.specs.Limits.{unitLimits};
 ghost use Rattle.jobfile.specs.File.{outcomeOf};
 ghost use Rattle.sweep.specs.Strips.{Swept};
 ghost use Rattle.extremes.specs.Exact.{extremeIn};
@@ -73,7 +73,7 @@ fn judged_number(head: Head, rects: &[u64], order: &[usize], amounts: &[u64]) ->
     requires { ⌜ Swept (now rects) (now order) ⌝ }
     ensures { λ r. ⌜ r ≡ verdictNumber (answerFor head (rectsOf (now (rects .entry))) (now (amounts .entry)) .verdict) ⌝ }
 {
-    number_of(fill::judge(rects, order, amounts, jobfile::plan_of(head)))
+    number_of(fill::judge(rects, order, amounts, forms::plan_of(head)))
 }
 
 fn ordered_phase(phase: u64, head: Head, rects: &[u64], order: &[usize], amounts: &[u64]) -> u64
@@ -118,7 +118,7 @@ fn job_phase(phase: u64, job: Job) -> u64
     let shapes = job.shapes;
     let amounts = job.amounts;
     let numbers = 4 * job.count;
-    let tiles = jobfile::tile_count(head);
+    let tiles = forms::tile_count(head);
     phase_number(phase, head, &shapes[..numbers], &amounts[..tiles])
 }
 

@@ -7,10 +7,10 @@ use native.Mathlib.Omega.{arith}
 use lib.Dec.{lit≤}
 use lib.ListN.{length, take, drop}
 use Rattle.fill.proofs.Loads.{tiles-few}
+use Rattle.forms.specs.Limits.{unitLimits}
+use Rattle.forms.specs.Shapes.{rectangles}
+use Rattle.forms.specs.Forms.{tilesAcross}
 use Rattle.jobfile.specs.declared.Job.{Job}
-use Rattle.jobfile.specs.Limits.{unitLimits}
-use Rattle.jobfile.specs.Shapes.{rectangles}
-use Rattle.jobfile.specs.Forms.{tilesAcross}
 use Rattle.jobfile.specs.Faults.{Standing}
 use Rattle.jobfile.specs.File.{Outcome, refused, accepted, outcomeOf}
 use Rattle.jobfile.specs.Acceptance.{FirstFault, faulty, unfed, unended, RefusedFile, long, lines}

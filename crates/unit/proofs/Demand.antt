@@ -39,9 +39,9 @@ use Rattle.fill.specs.Judge.{numberAt, boundNumber, verdictNumbers, verdictOf}
 use Rattle.fill.specs.Placement.{Placement}
 use Rattle.fill.proofs.Promise.{Dissected, safe-keeps, broken-breaks}
 use Rattle.fill.proofs.Placing.{placement}
-use Rattle.jobfile.specs.declared.Head.{Head}
-use Rattle.jobfile.specs.Shapes.{rectangles, keepouts}
-use Rattle.jobfile.specs.Forms.{tileSide, tilesAcross, planOf}
+use Rattle.forms.specs.declared.Head.{Head}
+use Rattle.forms.specs.Shapes.{rectangles, keepouts}
+use Rattle.forms.specs.Forms.{tileSide, tilesAcross, planOf}
 use Rattle.jobfile.specs.Faults.{Standing, roomOf}
 use Rattle.unit.specs.Answering.{quickOf, answerFor, answerOf, quickIn}
 use Rattle.unit.proofs.Metal.{sum-of-kinds, area-of-kinds, eligible-clear}

@@ -1,4 +1,3 @@
-pub mod Cases
 pub mod Length
 pub mod Rooms
 pub mod Metal

@@ -13,11 +13,11 @@ use Rattle.geometry.specs.Layout.{holds, covered, coveredArea, Disjoint}
 use Rattle.geometry.specs.Overlaps.{overlap}
 use Rattle.geometry.proofs.Overlaps.{overlap-is-area}
 use Rattle.fill.specs.Eligible.{clearOf, clearOfAll, rectsIn, eligible}
-use Rattle.jobfile.specs.declared.Gap.{Gap}
-use Rattle.jobfile.specs.declared.Kind.{Kind}
-use Rattle.jobfile.specs.declared.Kind.the-variants.{Drawn, Dummy}
-use Rattle.jobfile.specs.declared.Shape.{Shape}
-use Rattle.jobfile.specs.Shapes.{rectangles, rectanglesOf, isKind, keepoutOf, keepouts}
+use Rattle.forms.specs.declared.Gap.{Gap}
+use Rattle.forms.specs.declared.Kind.{Kind}
+use Rattle.forms.specs.declared.Kind.the-variants.{Drawn, Dummy}
+use Rattle.forms.specs.declared.Shape.{Shape}
+use Rattle.forms.specs.Shapes.{rectangles, rectanglesOf, isKind, keepoutOf, keepouts}
 use Rattle.unit.specs.Promise.{Among, first, later, Clear}
 
 -- ---- the shapes of one kind are among all

@@ -14,15 +14,16 @@ use Rattle.buffers.specs.Written.{atFront, Front}
 use Rattle.fill.specs.Judge.{numberAt}
 use Rattle.spelling.specs.Text.{bytes}
 use Rattle.spelling.specs.Pattern.{spell}
-use Rattle.jobfile.specs.declared.Form.{Form}
-use Rattle.jobfile.specs.declared.Gap.{Gap}
-use Rattle.jobfile.specs.declared.Form.the-variants.{Unknown, Heading, Metal, Fill, End}
-use Rattle.jobfile.specs.Limits.{Limits, unitLimits}
-use Rattle.jobfile.specs.Shapes.{rectangles}
-use Rattle.jobfile.specs.Forms.{inRange, tilesAcross, agrees}
-use Rattle.jobfile.specs.Faults.{Standing, beforeHead, check, inTurn, fitsLayout, known, ownFault, shapeFault, roomOf, fillFault, lineFault}
+use Rattle.forms.specs.declared.Form.{Form}
+use Rattle.forms.specs.declared.Gap.{Gap}
+use Rattle.forms.specs.declared.Form.the-variants.{Unknown, Heading, Metal, Fill, End}
+use Rattle.forms.specs.Limits.{Limits, unitLimits}
+use Rattle.forms.specs.Shapes.{rectangles}
+use Rattle.forms.specs.Forms.{inRange, tilesAcross, agrees, fitsLayout, known}
+use Rattle.forms.specs.Spellings.{spellingOf}
+use Rattle.jobfile.specs.Faults.{Standing, beforeHead, check, inTurn, ownFault, shapeFault, roomOf, fillFault, lineFault}
 use Rattle.jobfile.specs.File.{Outcome, refused, accepted, outcomeOf}
-use Rattle.jobfile.specs.Acceptance.{spellingOf, formsText, LineFault, spelled, unspelled, FirstFault, faulty, unfed, unended, RefusedFile, long, lines}
+use Rattle.jobfile.specs.Acceptance.{formsText, LineFault, spelled, unspelled, FirstFault, faulty, unfed, unended, RefusedFile, long, lines}
 use Rattle.jobfile.specs.Gaps.{outcomeWith, fileWith}
 use Rattle.jobfile.proofs.Files.{acceptance}
 use Rattle.jobfile.proofs.SameGaps.{gaps-decide}

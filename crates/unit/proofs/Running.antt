@@ -21,8 +21,8 @@ use Rattle.fill.specs.declared.Plan.{Plan}
 use Rattle.fill.specs.declared.Verdict.{Verdict}
 use Rattle.fill.specs.Judge.{verdictOf}
 use Rattle.fill.specs.Sizes.{Planned}
-use Rattle.jobfile.specs.declared.Head.{Head}
-use Rattle.jobfile.specs.Forms.{tilesAcross, planOf}
+use Rattle.forms.specs.declared.Head.{Head}
+use Rattle.forms.specs.Forms.{tilesAcross, planOf}
 use Rattle.unit.specs.declared.run.Counts.{Counts}
 use Rattle.unit.specs.declared.run.Answer.{Answer}
 use Rattle.unit.specs.Answering.{quickOf, countsOf, answerFor}

@@ -20,9 +20,9 @@ use Rattle.fill.specs.declared.Verdict.the-variants.{Safe, Broken, Undecided}
 use Rattle.fill.specs.Judge.{verdictOf}
 use Rattle.spelling.specs.Text.{bytes}
 use Rattle.spelling.specs.Pattern.{spell}
-use Rattle.jobfile.specs.declared.Head.{Head}
-use Rattle.jobfile.specs.Shapes.{rectangles}
-use Rattle.jobfile.specs.Forms.{planOf}
+use Rattle.forms.specs.declared.Head.{Head}
+use Rattle.forms.specs.Shapes.{rectangles}
+use Rattle.forms.specs.Forms.{planOf}
 use Rattle.jobfile.specs.Faults.{Standing}
 use Rattle.unit.specs.declared.run.Counts.{Counts}
 use Rattle.unit.specs.declared.run.Answer.{Answer}

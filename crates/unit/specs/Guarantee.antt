@@ -11,9 +11,9 @@ use mathlib.Core.Path.{_≡_}
 use mathlib.Core.List.{List}
 use lib.ListN.{length, take}
 use Rattle.buffers.specs.Written.{Front}
-use Rattle.jobfile.specs.declared.Gap.{Gap}
-use Rattle.jobfile.specs.declared.Head.{Head}
-use Rattle.jobfile.specs.Limits.{unitLimits}
+use Rattle.forms.specs.declared.Gap.{Gap}
+use Rattle.forms.specs.declared.Head.{Head}
+use Rattle.forms.specs.Limits.{unitLimits}
 use Rattle.jobfile.specs.Faults.{Standing}
 use Rattle.jobfile.specs.Acceptance.{AcceptedFile, Acceptance}
 use Rattle.jobfile.specs.Gaps.{fileWith, MayBegin, SameGaps}

@@ -5,4 +5,3 @@ pub mod Promise
 pub mod Guarantee
 pub mod Ready
 pub mod Rendering
-pub mod Cases

@@ -22,11 +22,11 @@ use Rattle.fill.specs.declared.Verdict.{Verdict}
 use Rattle.fill.specs.Eligible.{clearOf}
 use Rattle.fill.specs.Judge.{boundNumber, verdictNumbers}
 use Rattle.fill.specs.Placement.{Placement, placedSum, keeps}
-use Rattle.jobfile.specs.declared.Kind.{Kind}
-use Rattle.jobfile.specs.declared.Kind.the-variants.{Drawn, Dummy}
-use Rattle.jobfile.specs.declared.Shape.{Shape}
-use Rattle.jobfile.specs.Shapes.{rectangles, rectanglesOf, keepoutOf, keepouts}
-use Rattle.jobfile.specs.Forms.{tileSide, planOf}
+use Rattle.forms.specs.declared.Kind.{Kind}
+use Rattle.forms.specs.declared.Kind.the-variants.{Drawn, Dummy}
+use Rattle.forms.specs.declared.Shape.{Shape}
+use Rattle.forms.specs.Shapes.{rectangles, rectanglesOf, keepoutOf, keepouts}
+use Rattle.forms.specs.Forms.{tileSide, planOf}
 use Rattle.jobfile.specs.Faults.{Standing}
 use Rattle.unit.specs.declared.run.Answer.{Answer}
 use Rattle.unit.specs.Answering.{quickIn}

@@ -10,10 +10,10 @@ use Rattle.extremes.specs.declared.Extremes.{Extremes}
 use Rattle.zoom.specs.declared.Quick.{Quick}
 use Rattle.zoom.specs.Sizes.{mostAccuracy}
 use Rattle.fill.specs.Sizes.{Planned}
-use Rattle.jobfile.specs.declared.Head.{Head}
+use Rattle.forms.specs.declared.Head.{Head}
+use Rattle.forms.specs.Limits.{unitLimits}
+use Rattle.forms.specs.Forms.{tilesAcross, planOf}
 use Rattle.jobfile.specs.declared.Job.{Job}
-use Rattle.jobfile.specs.Limits.{unitLimits}
-use Rattle.jobfile.specs.Forms.{tilesAcross, planOf}
 use Rattle.jobfile.specs.Held.{shapesRoom, amountsRoom, tileCount}
 use Rattle.unit.specs.declared.run.Answer.{Answer}
 use Rattle.unit.specs.Answering.{answerFor}

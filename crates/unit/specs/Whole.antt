@@ -7,7 +7,7 @@ use lib.ListN.{length}
 use Rattle.buffers.specs.Written.{atFront}
 use Rattle.spelling.specs.Text.{bytes}
 use Rattle.spelling.specs.Pattern.{spell}
-use Rattle.jobfile.specs.Limits.{unitLimits}
+use Rattle.forms.specs.Limits.{unitLimits}
 use Rattle.jobfile.specs.File.{Outcome, refused, accepted, outcomeOf}
 use Rattle.unit.specs.declared.Reply.{Reply}
 use Rattle.unit.specs.declared.Reply.the-variants.{Accepted, Refused}

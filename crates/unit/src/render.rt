@@ -4,7 +4,7 @@ use crate::text::write_answer;
 use jobfile::Job;
 ghost use Prim.Native.Nat.{_≤_};
 ghost use lib.ListN.{length};
-ghost use Rattle.jobfile.specs.Limits.{unitLimits};
+ghost use Rattle.forms.specs.Limits.{unitLimits};
 ghost use Rattle.jobfile.specs.File.{outcomeOf};
 ghost use Rattle.unit.specs.Answering.{textOf};
 ghost use Rattle.unit.specs.Ready.{jobAnswer, Readable};
@@ -29,7 +29,7 @@ fn render_job(job: Job, text: &mut [u8]) -> usize
     let shapes = job.shapes;
     let amounts = job.amounts;
     let numbers = 4 * job.count;
-    let tiles = jobfile::tile_count(head);
+    let tiles = forms::tile_count(head);
     let answer = run(head, &shapes[..numbers], &amounts[..tiles]);
     write_answer(answer, text)
 }

@@ -1,9 +1,9 @@
 // The phases of a job in turn.
 use extremes::Extremes;
 use fill::Verdict;
+use forms::Head;
 use geometry::Sense;
 use geometry::Spot;
-use jobfile::Head;
 use sweep::ORDER_ROOM;
 use zoom::Asked;
 use zoom::Quick;
@@ -83,7 +83,7 @@ fn run_ordered(head: Head, rects: &[u64], order: &[usize], amounts: &[u64]) -> A
     let least = zoom::quick_run(Sense::Least, rects, order, asked, min);
     let counts = counts_of(rects, window, exact, greatest, least);
     let density = zoom::density(window, greatest.last.named.area, greatest.last.limit);
-    let verdict = fill::judge(rects, order, amounts, jobfile::plan_of(head));
+    let verdict = fill::judge(rects, order, amounts, forms::plan_of(head));
     Answer {
         exact,
         greatest,

@@ -6,4 +6,3 @@ pub mod Passing
 pub mod Weighing
 pub mod Passes
 pub mod Next
-pub mod Cases

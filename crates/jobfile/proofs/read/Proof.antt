@@ -1,7 +1,7 @@
 -- `jobfile::read` meets its contract. Each return cites what the lines came to. Assumes nothing.
 use mathlib.Core.Path.{refl, ap, _∙_}
 use borrow.Author.Needs.{needs}
-use Rattle.jobfile.specs.Limits.{unitLimits}
+use Rattle.forms.specs.Limits.{unitLimits}
 use Rattle.jobfile.specs.Held.{asJob}
 use Rattle.jobfile.proofs.Lines.{too-long, whole-bad, whole-good}
 use Rattle.jobfile.proofs.read.Statement.{statement}

@@ -4,7 +4,7 @@ use mathlib.Core.Path.{refl, sym, ap, _∙_}
 use native.Mathlib.Omega.{arith}
 use Prim.Native.Nat.{_*_}
 use lib.Seq.{length-take-le}
-use Rattle.jobfile.specs.Forms.{tilesAcross}
+use Rattle.forms.specs.Forms.{tilesAcross}
 use Rattle.unit.specs.Ready.{jobRects}
 use Rattle.fill.proofs.Loads.{tiles-few}
 use Rattle.unit.proofs.Running.{ready-at, run-at}

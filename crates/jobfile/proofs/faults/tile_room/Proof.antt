@@ -7,7 +7,7 @@ use lib.ListN.{take}
 use lib.Seq.{length-take-le}
 use Rattle.fill.specs.Eligible.{tile}
 use Rattle.fill.specs.Free.{regionNumbers, freeIn}
-use Rattle.jobfile.specs.Forms.{tileSide}
+use Rattle.forms.specs.Forms.{tileSide}
 use Rattle.jobfile.proofs.Rows.{tile-served}
 use Rattle.jobfile.proofs.Faulting.{tile-corners, tile-small}
 use Rattle.jobfile.proofs.faults.tile_room.Statement.{statement}

@@ -6,7 +6,7 @@ use native.Mathlib.Omega.{arith}
 use borrow.Author.Needs.{needs}
 use denote.Ref.{now}
 use lib.ListN.{length}
-use Rattle.jobfile.specs.Limits.{unitLimits}
+use Rattle.forms.specs.Limits.{unitLimits}
 use Rattle.jobfile.proofs.Lines.{ReadSoFar, read-so-far-start, read-so-far-next, read-so-far-bad, read-so-far-end, from-place}
 use Rattle.jobfile.proofs.reader.read_lines.Statement.{statement}
 use Rattle.jobfile.proofs.reader.read_lines.Tie as tie

@@ -5,7 +5,7 @@ use native.Mathlib.Omega.{arith}
 use Prim.Native.Nat.{_*_}
 use lib.Seq.{length-take-le}
 use Rattle.fill.proofs.Loads.{tiles-few}
-use Rattle.jobfile.specs.Forms.{tilesAcross}
+use Rattle.forms.specs.Forms.{tilesAcross}
 use Rattle.unit.specs.Answering.{textOf}
 use Rattle.unit.specs.Ready.{jobRects}
 use Rattle.unit.proofs.Running.{ready-at, run-at}

@@ -1,0 +1,10 @@
+pub mod Row
+pub mod JobA
+pub mod Areas
+pub mod Exact
+pub mod Zoom
+pub mod Fill
+pub mod Printing
+pub mod Files
+pub mod Dummies
+pub mod Table
