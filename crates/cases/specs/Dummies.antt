@@ -99,12 +99,20 @@ dummyRows =
     ∷ row "a third shape of two allowed, a dummy"
     (printsTwo "(job (size 8) (window 4) (cut 2) (gap 1) (bounds 0 5000) (zoom 0 6))\n(rect 0 0 1 1)\n(dummy 2 2 3 3)\n(dummy 4 4 5 5)\n")
     (bytes "(refused 8 4)\n")
+    ∷ row "a third shape of two allowed, a dummy past the layout"
+    (printsTwo "(job (size 8) (window 4) (cut 2) (gap 1) (bounds 0 5000) (zoom 0 6))\n(rect 0 0 1 1)\n(dummy 2 2 3 3)\n(dummy 4 4 9 5)\n")
+    (bytes "(refused 6 4)\n")
+    ∷ row "a third shape of two allowed, a dummy on another"
+    (printsTwo "(job (size 8) (window 4) (cut 2) (gap 1) (bounds 0 5000) (zoom 0 6))\n(rect 0 0 1 1)\n(dummy 2 2 3 3)\n(dummy 2 2 3 3)\n")
+    (bytes "(refused 8 4)\n")
     ∷ row "a dummy past the layout"
     (prints "(job (size 8) (window 4) (cut 2) (gap 1) (bounds 0 5000) (zoom 0 6))\n(dummy 3 3 9 5)\n")
     (bytes "(refused 6 2)\n")
     ∷ row "a dummy after a fill"
     (prints "(job (size 8) (window 4) (cut 2) (gap 1) (bounds 0 5000) (zoom 0 6))\n(fill 0 0 1)\n(dummy 3 3 5 5)\n")
     (bytes "(refused 4 3)\n")
+    ∷ row "a dummy before the head" (prints "(dummy 3 3 5 5)\n") (bytes "(refused 4 1)\n")
+    ∷ row "a dummy after the end" (prints "(job (size 8) (window 4) (cut 2) (gap 1) (bounds 0 5000) (zoom 0 6))\n(end)\n(dummy 3 3 5 5)\n") (bytes "(refused 4 3)\n")
     ∷ row "a dummy with three corners"
     (prints "(job (size 8) (window 4) (cut 2) (gap 1) (bounds 0 5000) (zoom 0 6))\n(dummy 3 3 5)\n")
     (bytes "(refused 2 2)\n")

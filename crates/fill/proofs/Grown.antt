@@ -3,12 +3,11 @@
 use Prim.Native.Nat.{ℕ, zero, suc, _+_, _-_, _*_, _≤_, _<_}
 use mathlib.Core.Path.{_≡_, refl, sym, ap, ap₂, _∙_}
 use mathlib.Core.Bool.{Bool, true, false, not, _&&_, _||_, and-true}
-use mathlib.Core.List.{List, [], _∷_, _++_, map-append}
+use mathlib.Core.List.{List, [], _∷_}
 use mathlib.Core.Logic.{_⊎_, inl, inr}
 use native.Mathlib.Nat.{sub-zero, add-zero}
 use native.Mathlib.Omega.{arith}
 use lib.Dec.{T, leb, ltb, leb·zero}
-use lib.ListN.{length, take}
 use borrow.Author.Tests.{lt-ltb, le-ltb, le-leb, lt-leb}
 use Rattle.laws.proofs.Tests.{le-or-lt}
 use Rattle.geometry.specs.declared.Rect.{Rect}
@@ -16,10 +15,9 @@ use Rattle.geometry.specs.Count.{boxSum, one-if}
 use Rattle.geometry.specs.Layout.{holds, covered}
 use Rattle.geometry.proofs.Counting.{Inside, box-cong, box-le, box-const, box-cut-rows, box-cut-columns}
 use Rattle.geometry.proofs.Overlaps.{one-if-small}
-use Rattle.geometry.proofs.Tables.{stored-rects, stored-length}
 use Rattle.fill.specs.declared.Keepout.{Keepout}
 use Rattle.fill.specs.Eligible.{gapBetween, clearOf, clearOfAll, rectsIn, eligible, fillableArea}
-use Rattle.fill.specs.Free.{regionNumbers, regionOf, regionsOf, Regions, withRegion, freeArea, freeIn, meeting, below, leftOf, rightOf, above}
+use Rattle.fill.specs.Free.{regionOf, regionsOf, freeArea, meeting, below, leftOf, rightOf, above}
 
 -- ---- one axis
 
@@ -88,21 +86,6 @@ eligible-outside (k ∷ ks) x y =
 pub fillable-outside : (ks : List Keepout) (b : Rect) → fillableArea ks b ≡ freeArea (regionsOf ks) b
 fillable-outside ks b =
     box-cong b (λ x y. one-if (eligible ks x y)) (λ x y. one-if (not (covered (regionsOf ks) x y))) (λ x y i. ap one-if (eligible-outside ks x y))
-
--- ---- tables of regions
-
--- what is free by a table of regions is what is fillable
-pub regions-fillable : (t : List ℕ) (ks : List Keepout) (b : Rect) → Regions t ks → freeIn t b ≡ fillableArea ks b
-regions-fillable t ks b e = ap (λ (rs : List Rect). freeArea rs b) e ∙ sym (fillable-outside ks b)
-
--- the region of one shape more
-pub regions-more : (t : List ℕ) (c : ℕ) (ks : List Keepout) (k : Keepout) → regionNumbers * c + regionNumbers ≤ length t →
-    Regions (take (regionNumbers * c) t) ks → Regions (take (regionNumbers * suc c) (withRegion t c k)) (ks ++ (k ∷ []))
-regions-more t c ks k h e =
-    stored-rects t c (regionOf k) h ∙ ap (λ (rs : List Rect). rs ++ (regionOf k ∷ [])) e ∙ sym (map-append regionOf ks (k ∷ []))
-
-pub regions-length : (t : List ℕ) (c : ℕ) (k : Keepout) → regionNumbers * c + regionNumbers ≤ length t → length (withRegion t c k) ≡ length t
-regions-length t c k h = stored-length t c (regionOf k) h
 
 -- ---- what is left of a box
 

@@ -1,4 +1,5 @@
 pub mod Grown
+pub mod RegionTables
 pub mod Cutting
 pub mod Near
 pub mod Tiles

@@ -94,7 +94,7 @@ pub record Skipped (table : List ℕ) (i : ℕ) (b : Rect) (k : ℕ) : Type 0 wh
 -- place k is some whole regions behind place i, and those from k on hold no square of the box
 pub record LastNear (table : List ℕ) (i : ℕ) (b : Rect) (k : ℕ) : Type 0 where
   pub regions : ℕ
-  pub whole : k ≡ i + 4 * regions
+  pub whole : k ≡ i + regionNumbers * regions
   pub within : k ≤ length table
   pub rest : (x y : ℕ) → b .x1 ≤ x → x < b .x2 → b .y1 ≤ y → y < b .y2 → heldFrom table k x y ≡ false
 

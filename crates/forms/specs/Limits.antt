@@ -1,7 +1,7 @@
 -- Document 01, "The job file": the limits of a file and of its numbers. They are a value, so that two sets of limits can be compared.
 use Prim.Native.Nat.{ℕ, _≤_}
 
--- the most that a file may have: bytes of the file, digits of a number, shapes; and the greatest number of each kind
+-- the most that a file may have: bytes of the file, digits of a number, shapes; and the greatest value of each sort of number
 pub record Limits : Type 0 where
   pub bytes : ℕ
   pub digits : ℕ

@@ -13,7 +13,7 @@ use lib.Seq.{take-set-lt, drop-set-lt}
 use Rattle.geometry.specs.Layout.{rectsOf}
 use Rattle.fill.specs.Judge.{tileIndex}
 use Rattle.fill.specs.Free.{regionNumbers, withRegion}
-use Rattle.fill.proofs.Grown.{regions-more, regions-length}
+use Rattle.fill.proofs.RegionTables.{regions-none, regions-more, regions-length}
 use Rattle.forms.specs.declared.Head.{Head}
 use Rattle.forms.specs.declared.Shape.{Shape}
 use Rattle.forms.specs.declared.Form.{Form}
@@ -79,7 +79,7 @@ module _ (s : State) (shapes regions amounts : List ℕ) (k : Held s shapes regi
   on-heading h e =
       entered s shapes regions amounts (Heading h) (record { turn = Shapes; head = h; count = 0; near = NoRow }) shapes regions amounts k e
       (ap (λ (l : List ℕ). record { turn = Shapes; head = h; shapes = []; amounts = l }) clean)
-      (record { table = z .shapes-zero; counted = refl; few = lit≤ tt; room = k .shaped .room; kept = refl })
+      (record { table = z .shapes-zero; counted = refl; few = lit≤ tt; room = k .shaped .room; kept = regions-none })
       (record {
         room = k .filled .room;
         tiles = few;

@@ -18,7 +18,7 @@ use Rattle.fill.specs.Eligible.{tile}
 use Rattle.fill.specs.Free.{regionNumbers}
 use Rattle.fill.specs.Judge.{tileIndex, numberAt}
 use Rattle.fill.specs.Sizes.{SmallBox}
-use Rattle.fill.proofs.Grown.{regions-fillable}
+use Rattle.fill.proofs.RegionTables.{regions-fillable}
 use Rattle.forms.specs.declared.Head.{Head}
 use Rattle.forms.specs.declared.Form.{Form}
 use Rattle.forms.specs.declared.Form.the-variants.{Unknown, Heading, Metal, Fill, End}

@@ -17,7 +17,6 @@ use Rattle.forms.specs.declared.Form.the-variants.{Unknown, Heading, Metal, Fil
 use Rattle.forms.specs.declared.Gap.{Gap}
 use Rattle.forms.specs.declared.Head.{Head}
 use Rattle.forms.specs.declared.Kind.{Kind}
-use Rattle.forms.specs.declared.Kind.the-variants.{Drawn, Dummy}
 use Rattle.forms.specs.declared.Shape.{Shape}
 use Rattle.forms.specs.Limits.{Limits}
 use Rattle.forms.specs.Shapes.{gapFor, keepoutOf, keepouts}
@@ -29,7 +28,7 @@ use Rattle.jobfile.specs.declared.Turn.{Turn}
 use Rattle.jobfile.specs.declared.Turn.the-variants.{Before, Shapes, Fills, Done}
 use Rattle.jobfile.specs.Faults.{Standing, beforeHead, check, inTurn, shapeFault, fillFault, lineFault, standsAfter}
 use Rattle.jobfile.specs.File.{Outcome, refused, atEnd, afterLast, readLines, outcomeOf}
-use Rattle.jobfile.specs.Gaps.{standingWith, outcomeWith, fileWith, NoDummy, GapsDecide}
+use Rattle.jobfile.specs.Gaps.{standingWith, outcomeWith, fileWith, NoneOf, GapsDecide}
 use Rattle.jobfile.proofs.Faultless.{no-fault}
 use Rattle.jobfile.proofs.Sound.{heading-turn}
 use Rattle.jobfile.proofs.Lines.{read-next, short-enough}
@@ -159,20 +158,24 @@ head-fault : (m : Limits) (h : Head) (g g′ : Gap) → gapInRange m g ≡ true 
 unfolding lineFault
 head-fault m h g g′ r r′ = rw (r, r′)
 
--- the gaps agree for every line, since both kinds have the same gap or no line is a dummy
-all-agree : (m : Limits) (g g′ : Gap) (ps : List (List ℕ)) → gapFor g Drawn ≡ gapFor g′ Drawn → (gapFor g Dummy ≡ gapFor g′ Dummy) ⊎ NoDummy m ps → AllAgree m g g′ ps
-unfolding AllAgree NoDummy
-all-agree m g g′ [] d n = tt
-all-agree m g g′ (line ∷ more) d (inl e) = (λ s q. by-kind (s .kind), all-agree m g g′ more d (inl e))
-  where
-    by-kind : (k : Kind) → gapFor g k ≡ gapFor g′ k
-    by-kind Drawn = d
-    by-kind Dummy = e
-all-agree m g g′ (line ∷ more) d (inr n) = (λ s q. by-kind s q (s .kind) refl, all-agree m g g′ more d (inr (n .1)))
-  where
-    by-kind : (s : Shape) → formOf m line ≡ Metal s → (k : Kind) → s .kind ≡ k → gapFor g (s .kind) ≡ gapFor g′ (s .kind)
-    by-kind s q Drawn e = ap (gapFor g) e ∙ d ∙ sym (ap (gapFor g′) e)
-    by-kind s q Dummy e = absurd (n .0 s e (rw q at (form-spelled m line (ap known q))))
+-- the gaps agree for a line that is read as a shape, since no other line is one of a kind for which they differ
+agree : (m : Limits) (g g′ : Gap) (line : List ℕ) (more : List (List ℕ)) (s : Shape) → formOf m line ≡ Metal s →
+    (gapFor g (s .kind) ≡ gapFor g′ (s .kind)) ⊎ NoneOf m (s .kind) (line ∷ more) → gapFor g (s .kind) ≡ gapFor g′ (s .kind)
+unfolding NoneOf
+agree m g g′ line more s q (inl e) = e
+agree m g g′ line more s q (inr n) = absurd (n .0 s refl (rw q at (form-spelled m line (ap known q))))
+
+further : (m : Limits) (g g′ : Gap) (line : List ℕ) (more : List (List ℕ)) (k : Kind) → (gapFor g k ≡ gapFor g′ k) ⊎ NoneOf m k (line ∷ more) →
+    (gapFor g k ≡ gapFor g′ k) ⊎ NoneOf m k more
+unfolding NoneOf
+further m g g′ line more k (inl e) = inl e
+further m g g′ line more k (inr n) = inr (n .1)
+
+all-agree : (m : Limits) (g g′ : Gap) (ps : List (List ℕ)) → ((k : Kind) → (gapFor g k ≡ gapFor g′ k) ⊎ NoneOf m k ps) → AllAgree m g g′ ps
+unfolding AllAgree
+all-agree m g g′ [] same = tt
+all-agree m g g′ (line ∷ more) same =
+    (λ s q. agree m g g′ line more s q (same (s .kind)), all-agree m g g′ more (λ k. further m g g′ line more k (same k)))
 
 pub gaps-decide : GapsDecide
 unfolding standsAfter
@@ -181,7 +184,7 @@ gaps-decide m h g g′ rest k k′ same =
     ∙ fault-with g′ (lineFault m beforeHead (Heading (withGap h g′))) (lineFault m beforeHead (Heading (withGap h g))) 1
     (readLines m (standsAfter beforeHead (Heading (withGap h g′))) 2 (pieces rest)) (readLines m (standsAfter beforeHead (Heading (withGap h g))) 2 (pieces rest))
     (head-fault m h g g′ (k .range) (k′ .range))
-    (λ e. lines-with m g g′ (standsAfter beforeHead (Heading (withGap h g))) 2 (pieces rest) first (all-agree m g g′ (pieces rest) (same .drawn) (same .dummies)))
+    (λ e. lines-with m g g′ (standsAfter beforeHead (Heading (withGap h g))) 2 (pieces rest) first (all-agree m g g′ (pieces rest) same))
     ∙ sym (ap (outcomeWith g′) (file-outcome m h g rest (k .short) (k .fits)))
   where
     first : Same g g′ (standsAfter beforeHead (Heading (withGap h g)))

@@ -24,7 +24,7 @@ use Rattle.forms.specs.Forms.{rectInRange, tilesAcross, agrees, fitsLayout}
 use Rattle.jobfile.specs.declared.Turn.{Turn}
 use Rattle.jobfile.specs.declared.Turn.the-variants.{Before, Shapes, Fills, Done}
 use Rattle.jobfile.specs.Faults.{Standing, beforeHead, inTurn, roomOf, lineFault, standsAfter}
-use Rattle.jobfile.specs.Held.{tileCount, GoodShapes, Sound}
+use Rattle.jobfile.specs.Held.{tileCount, GoodRects, Sound}
 use Rattle.jobfile.proofs.Faultless.{check-passes, NoFault, no-fault, NoShapeFault, no-shape-fault, NoFillFault, no-fill-fault}
 use Rattle.jobfile.proofs.Tables.{getD-zeros}
 
@@ -58,8 +58,8 @@ not-before e = let z : _≡_ {A = ℕ} 0 1 = cc in absurd (omega arith)
 
 -- ---- one more shape
 
-good-more : (h : Head) (rs : List Rect) (r : Rect) → GoodShapes h rs → rectInRange unitLimits r ≡ true → fitsLayout h r ≡ true → GoodShapes h (rs ++ (r ∷ []))
-unfolding GoodShapes
+good-more : (h : Head) (rs : List Rect) (r : Rect) → GoodRects h rs → rectInRange unitLimits r ≡ true → fitsLayout h r ≡ true → GoodRects h (rs ++ (r ∷ []))
+unfolding GoodRects
 good-more h [] r g e f = (e, f, tt)
 good-more h (q ∷ rs) r g e f = (g .0, g .1, good-more h rs r (g .2) e f)
 
@@ -83,7 +83,7 @@ amount-set t l i j p u v bound e hi hj hu hv fits old = go (ℕ-discrete (v * t 
 -- ---- one more line
 
 after-heading : (st : Standing) (h : Head) → NoFault unitLimits st (Heading h) → Sound (standsAfter st (Heading h))
-unfolding standsAfter GoodShapes Disjoint
+unfolding standsAfter GoodRects Disjoint
 after-heading st h g =
     record {
       start = not-before;
@@ -163,7 +163,7 @@ pub sound-after : (st : Standing) (f : Form) → Sound st → lineFault unitLimi
 sound-after st f s e = sound-next st f s (no-fault unitLimits st f e)
 
 pub sound-start : Sound beforeHead
-unfolding GoodShapes Disjoint
+unfolding GoodRects Disjoint
 sound-start =
     record {
       start = λ e. refl;

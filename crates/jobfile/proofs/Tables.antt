@@ -15,7 +15,7 @@ use Rattle.forms.specs.declared.Head.{Head}
 use Rattle.forms.specs.Limits.{Limits, unitLimits}
 use Rattle.forms.specs.Forms.{inSpan, rectInRange}
 use Rattle.forms.proofs.Heads.{Between, between}
-use Rattle.jobfile.specs.Held.{GoodShapes, tableOf}
+use Rattle.jobfile.specs.Held.{GoodRects, tableOf}
 
 -- ---- tables of rectangles
 
@@ -82,8 +82,8 @@ corners m r e =
     b = both (inSpan 0 (m .side) (r .x2)) (inSpan 0 (m .side) (r .y2)) (ends .1)
 
 -- no number of a table of good rectangles is past the greatest side
-pub table-small : (h : Head) (rs : List Rect) → GoodShapes h rs → (i : ℕ) → getD (tableOf rs) i 0 ≤ unitLimits .side
-unfolding tableOf GoodShapes
+pub table-small : (h : Head) (rs : List Rect) → GoodRects h rs → (i : ℕ) → getD (tableOf rs) i 0 ≤ unitLimits .side
+unfolding tableOf GoodRects
 table-small h [] g i = lit≤ tt
 table-small h (r ∷ rs) g zero = corners unitLimits r (g .0) .left .most
 table-small h (r ∷ rs) g (suc zero) = corners unitLimits r (g .0) .low .most
@@ -92,7 +92,7 @@ table-small h (r ∷ rs) g (suc (suc (suc zero))) = corners unitLimits r (g .0) 
 table-small h (r ∷ rs) g (suc (suc (suc (suc i)))) = table-small h rs (g .2) i
 
 -- the table of good rectangles is that of a layer
-pub table-layer : (h : Head) (rs : List Rect) → GoodShapes h rs → Disjoint rs → length rs ≤ unitLimits .shapes → Layer (tableOf rs)
+pub table-layer : (h : Head) (rs : List Rect) → GoodRects h rs → Disjoint rs → length rs ≤ unitLimits .shapes → Layer (tableOf rs)
 table-layer h rs g d l =
     record {
       few = omega (arith, length-table rs);

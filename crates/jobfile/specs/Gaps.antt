@@ -11,7 +11,7 @@ use Rattle.spelling.specs.Decimal.{EachShort}
 use Rattle.forms.specs.declared.Form.the-variants.{Heading, Metal}
 use Rattle.forms.specs.declared.Gap.{Gap}
 use Rattle.forms.specs.declared.Head.{Head}
-use Rattle.forms.specs.declared.Kind.the-variants.{Drawn, Dummy}
+use Rattle.forms.specs.declared.Kind.{Kind}
 use Rattle.forms.specs.declared.Shape.{Shape}
 use Rattle.forms.specs.Limits.{Limits}
 use Rattle.forms.specs.Shapes.{gapFor}
@@ -38,15 +38,14 @@ pub record MayBegin (limits : Limits) (h : Head) (g : Gap) (rest : List ℕ) : T
   pub range : gapInRange limits g ≡ true
   pub fits : length (fileWith h g rest) ≤ limits .bytes
 
--- no line spells a dummy, of a text by its pieces between line feeds
-unfoldable pub NoDummy : Limits → List (List ℕ) → Type 0
-NoDummy limits [] = Unit {0}
-NoDummy limits (line ∷ more) = ((s : Shape) → s .kind ≡ Dummy → Spells limits line (Metal s) → ⊥) × NoDummy limits more
+-- no line spells a shape of a kind, of a text by its pieces between line feeds
+unfoldable pub NoneOf : Limits → Kind → List (List ℕ) → Type 0
+NoneOf limits k [] = Unit {0}
+NoneOf limits k (line ∷ more) = ((s : Shape) → s .kind ≡ k → Spells limits line (Metal s) → ⊥) × NoneOf limits k more
 
 -- two heads have the same gap for each kind of shape that a text has
-pub record SameGaps (limits : Limits) (g g′ : Gap) (rest : List ℕ) : Type 0 where
-  pub drawn : gapFor g Drawn ≡ gapFor g′ Drawn
-  pub dummies : (gapFor g Dummy ≡ gapFor g′ Dummy) ⊎ NoDummy limits (pieces rest)
+abbrev pub SameGaps : Limits → (g g′ : Gap) (rest : List ℕ) → Type 0
+SameGaps limits g g′ rest = (k : Kind) → (gapFor g k ≡ gapFor g′ k) ⊎ NoneOf limits k (pieces rest)
 
 -- then a file comes to the same under one as under the other; proofs/SameGaps.antt proves it for all limits
 abbrev pub GapsDecide : Type 0

@@ -77,16 +77,16 @@ standing s shapes amounts =
     record { turn = s .turn; head = s .head; shapes = shapesIn (s .count) shapes; amounts = take (tileCount (s .head)) amounts }
 
 -- every rectangle was in range and fits the layout
-unfoldable pub GoodShapes : Head → List Rect → Type 0
-GoodShapes h [] = Unit {0}
-GoodShapes h (r ∷ rs) = (rectInRange unitLimits r ≡ true) × (fitsLayout h r ≡ true) × GoodShapes h rs
+unfoldable pub GoodRects : Head → List Rect → Type 0
+GoodRects h [] = Unit {0}
+GoodRects h (r ∷ rs) = (rectInRange unitLimits r ≡ true) × (fitsLayout h r ≡ true) × GoodRects h rs
 
 -- what is so after good lines
 pub record Sound (st : Standing) : Type 0 where
   pub start : st .turn ≡ Before → st ≡ beforeHead
   pub headed : (st .turn ≡ Before → ⊥) → GoodHead (st .head)
   pub few : length (st .shapes) ≤ unitLimits .shapes
-  pub good : GoodShapes (st .head) (rectangles (st .shapes))
+  pub good : GoodRects (st .head) (rectangles (st .shapes))
   pub apart : Disjoint (rectangles (st .shapes))
   pub sized : length (st .amounts) ≡ tileCount (st .head)
   pub unfilled : st .turn ≡ Shapes → st .amounts ≡ replicate (tileCount (st .head)) 0

@@ -57,7 +57,8 @@ answerFor h rs amounts =
       verdict = verdictOf rs amounts (planOf h);
     }
 
--- an accepted job is answered by the rectangles of all its shapes, drawn metal and dummies alike: kinds and gaps decide on fault 11 alone
+-- an accepted job is answered by the rectangles of all its shapes, drawn metal and dummies alike. Kinds and gaps play no part in it: they decide
+-- on fault 11, and on where a placement may lie
 abbrev pub answerOf : Standing → Answer
 answerOf st = answerFor (st .head) (rectangles (st .shapes)) (st .amounts)
 

@@ -157,7 +157,7 @@ pub data Among (s : Shape) : List Shape → Type 0 where
   first : {ss : List Shape} → Among s (s ∷ ss)
   later : {t : Shape} {ss : List Shape} → Among s ss → Among s (t ∷ ss)
 
--- the unit square (x, y) lies outside a shape, and at least its gap away from it
+-- the unit square (x, y) lies outside a shape, and across or down at least the shape's gap away from it
 pub record Clear (k : Keepout) (x y : ℕ) : Type 0 where
   pub outside : holds (k .rect) x y ≡ false
   pub away : clearOf k x y ≡ true

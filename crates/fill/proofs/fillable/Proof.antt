@@ -2,7 +2,7 @@
 use mathlib.Core.Path.{_∙_}
 use native.Mathlib.Omega.{arith}
 use borrow.Author.Needs.{needs}
-use Rattle.fill.proofs.Grown.{regions-fillable}
+use Rattle.fill.proofs.RegionTables.{regions-fillable}
 use Rattle.fill.proofs.Near.{part-counts}
 use Rattle.fill.proofs.fillable.Statement.{statement}
 use Rattle.fill.proofs.fillable.Tie as tie
