@@ -1,5 +1,6 @@
 -- Of what the head says of gaps, only the gap of each kind of shape that a file has plays a part: files that are the same but for their gaps. So D plays
--- no part where there is no dummy, and (gap B) is (gap B B). The unit's specs/Guarantee.antt says what follows for what is printed.
+-- no part where there is no dummy, B none where there is no drawn metal, and (gap B) is (gap B B). The unit's specs/Guarantee.antt says what follows for
+-- what is printed.
 use Prim.Native.Nat.{ℕ, _≤_}
 use mathlib.Core.Path.{_≡_}
 use mathlib.Core.Bool.{true}
