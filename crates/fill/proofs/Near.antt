@@ -17,7 +17,7 @@ use Rattle.geometry.specs.Overlaps.{rectAt}
 use Rattle.geometry.proofs.Counting.{box-cong}
 use Rattle.geometry.proofs.Tables.{rects-next, rects-end, rects-append, covered-append}
 use Rattle.fill.specs.declared.Part.{Part}
-use Rattle.fill.specs.Free.{freeFrom, freeIn, isNear, heldFrom, Skipped, LastNear, partOf, Serves}
+use Rattle.fill.specs.Free.{regionNumbers, freeFrom, freeIn, isNear, heldFrom, Skipped, LastNear, partOf, Serves}
 use Rattle.fill.proofs.Grown.{not-left, not-right, not-below, not-above}
 
 -- ---- one region
@@ -70,8 +70,8 @@ skipped-free t i b k s =
 pub record NearSoFar (t : List ℕ) (at : ℕ) (b : Rect) (end i : ℕ) : Type 0 where
   pub near : ℕ
   pub seen : ℕ
-  pub whole : end ≡ at + 4 * near
-  pub place : i ≡ at + 4 * seen
+  pub whole : end ≡ at + regionNumbers * near
+  pub place : i ≡ at + regionNumbers * seen
   pub skipped : Skipped t end b i
 
 pub near-starts : (t : List ℕ) (at : ℕ) (b : Rect) → at ≤ length t → NearSoFar t at b at at
@@ -116,7 +116,7 @@ module _ (t : List ℕ) (b : Rect) (from to : ℕ) (s : Skipped t 0 b from) (l :
       let end : from + (to - from) ≡ to = omega (arith, l .whole) in
       sym (take-append-drop (to - from) (drop from t)) ∙ ap (λ (r : List ℕ). part ++ r) (drop-drop (to - from) from t ∙ ap (λ (k : ℕ). drop k t) end)
 
-  part-length : length part ≡ 4 * l .regions
+  part-length : length part ≡ regionNumbers * l .regions
   part-length = omega (arith, length-take-le (to - from) (drop from t) (omega (arith, length-drop from t, l .whole, l .within)), l .whole)
 
   -- a square of the box is held by the part exactly if it is by the table

@@ -4,8 +4,8 @@ use mathlib.Core.Path.{_≡_, refl, sym, _∙_}
 use mathlib.Core.Bool.{Bool, true, false, _&&_, false≢true}
 use native.Mathlib.Nat.{div-add-mod', mul-comm, mul-le-mul-right, le-trans, le-of-mul-le-mul-right}
 use native.Mathlib.Omega.{arith}
-use lib.Dec.{leb, eqb}
-use borrow.Author.Tests.{leb-true, eqb-true}
+use lib.Dec.{leb, ltb, eqb}
+use borrow.Author.Tests.{leb-true, ltb-true, eqb-true}
 use Rattle.laws.proofs.Tests.{both}
 use Rattle.forms.specs.declared.Gap.{Gap}
 use Rattle.forms.specs.declared.Gap.the-variants.{Both, Each}
@@ -14,7 +14,7 @@ use Rattle.forms.specs.declared.Kind.{Kind}
 use Rattle.forms.specs.declared.Kind.the-variants.{Drawn, Dummy}
 use Rattle.forms.specs.Limits.{Limits, unitLimits}
 use Rattle.forms.specs.Shapes.{gapFor}
-use Rattle.forms.specs.Forms.{inSpan, gapInRange, headInRange, tileSide, tilesAcross, agrees, GoodHead}
+use Rattle.forms.specs.Forms.{inSpan, gapInRange, headInRange, tileSide, tilesAcross, agrees, GoodHead, hasTile}
 
 pub record HeadFacts (h : Head) : Type 0 where
   pub window-least : 1 ≤ h .window
@@ -172,6 +172,12 @@ head-facts h g =
 
     side : 1 ≤ tileSide h
     side = positive (tileSide h) (h .cut) (omega (arith, a .cut-divides, r .window .least))
+
+-- a tile of the layout, by its column and row
+pub has-tile : (h : Head) (i j : ℕ) → hasTile h i j ≡ true → (i < tilesAcross h) × (j < tilesAcross h)
+has-tile h i j e =
+    let k = both (ltb i (tilesAcross h)) (ltb j (tilesAcross h)) e in
+    (ltb-true i (tilesAcross h) (k .0), ltb-true j (tilesAcross h) (k .1))
 
 -- the far corner of a tile lies in the layout
 pub tile-end : (h : Head) (i : ℕ) → HeadFacts h → i < tilesAcross h → suc i * tileSide h ≤ unitLimits .side

@@ -1,22 +1,18 @@
 -- A line spells a form exactly if it is read as that form.
 use Prim.Native.Nat.{ℕ, zero, suc}
 use mathlib.Core.Path.{_≡_, refl, sym, ap, _∙_, subst}
-use mathlib.Core.Bool.{Bool, true, false, not, false≢true}
-use mathlib.Core.List.{List, [], _∷_, _++_}
+use mathlib.Core.Bool.{true, false≢true}
+use mathlib.Core.List.{List, [], _∷_}
 use mathlib.Core.Option.{Option, none, some}
 use native.Mathlib.Omega.{arith}
-use lib.Dec.{eqb}
-use borrow.Author.Tests.{ne-eqb, not-true}
 use lib.ListN.{length, getD}
-use Rattle.laws.proofs.Tests.{both}
-use Rattle.spelling.specs.Text.{bytes}
-use Rattle.spelling.specs.Decimal.{decimal, EachShort, isDigit}
-use Rattle.spelling.specs.Pattern.{isPlace, spell, readAs}
+use Rattle.spelling.specs.Text.{bytes, feedless}
+use Rattle.spelling.specs.Decimal.{EachShort}
+use Rattle.spelling.specs.Pattern.{spell, readAs}
 use Rattle.spelling.specs.Scanning.{places}
-use Rattle.spelling.proofs.Numerals.{allDigits, digit-from, all-decimal}
-use Rattle.spelling.proofs.Patterns.{spell-place, spell-byte}
 use Rattle.spelling.proofs.Inverse.{Spelled, read-is-spelled, wellFormed, spelled-is-read}
 use Rattle.spelling.proofs.Clashes.{clash, clash-none}
+use Rattle.spelling.proofs.Feedless.{feedless-spell}
 use Rattle.geometry.specs.declared.Rect.{Rect}
 use Rattle.forms.specs.declared.Form.{Form}
 use Rattle.forms.specs.declared.Form.the-variants.{Unknown, Heading, Metal, Fill, End}
@@ -26,8 +22,10 @@ use Rattle.forms.specs.declared.Head.{Head}
 use Rattle.forms.specs.declared.Kind.{Kind}
 use Rattle.forms.specs.declared.Kind.the-variants.{Drawn, Dummy}
 use Rattle.forms.specs.Limits.{Limits}
-use Rattle.forms.specs.Forms.{oneGapPattern, twoGapsPattern, headPattern, rectPattern, dummyPattern, shapePattern, fillPattern, endPattern, known}
-use Rattle.forms.specs.Spellings.{withGap, numbersOf, spellingOf, Spells, feedless}
+use Rattle.forms.specs.Shapes.{withGap}
+use Rattle.forms.specs.Forms.{known}
+use Rattle.forms.specs.Spellings.{oneGapPattern, twoGapsPattern, headPattern, rectPattern, dummyPattern, shapePattern, fillPattern, endPattern}
+use Rattle.forms.specs.Spellings.{numbersOf, spellingOf, Spells}
 use Rattle.forms.specs.Reading.{oneGapForm, twoGapsForm, shapeForm, fillForm, endForm, formIf, headForm, rareForm, formOf}
 
 -- ---- what is read is spelled so
@@ -162,40 +160,8 @@ module _ (m : Limits) where
   pub spells-read : (line : List ℕ) (f : Form) → Spells m line f → formOf m line ≡ f
   spells-read line f s = ap (formOf m) (s .spelling) ∙ spelling-read f (s .is-known) (s .short)
 
--- ---- no line feed
+-- ---- a form's spelling has no line feed
 
-feedless-cons : (b : ℕ) (s : List ℕ) → eqb b 10 ≡ false → feedless s ≡ true → feedless (b ∷ s) ≡ true
-unfolding feedless
-feedless-cons b s e k = rw (e, k)
-
-pub feedless-first : (b : ℕ) (s : List ℕ) → feedless (b ∷ s) ≡ true → (eqb b 10 ≡ false) × (feedless s ≡ true)
-unfolding feedless
-feedless-first b s e = let k = both (not (eqb b 10)) (feedless s) e in (not-true (eqb b 10) (k .0), k .1)
-
-feedless-append : (s t : List ℕ) → feedless s ≡ true → feedless t ≡ true → feedless (s ++ t) ≡ true
-feedless-append [] t a b = b
-feedless-append (c ∷ s) t a b = let k = feedless-first c s a in feedless-cons c (s ++ t) (k .0) (feedless-append s t (k .1) b)
-
-feedless-digits : (s : List ℕ) → allDigits s ≡ true → feedless s ≡ true
-unfolding feedless allDigits
-feedless-digits [] e = refl
-feedless-digits (c ∷ s) e =
-    let k = both (isDigit c) (allDigits s) e in
-    feedless-cons c s (ne-eqb c 10 (λ z. omega (arith, digit-from c (k .0) .0))) (feedless-digits s (k .1))
-
-feedless-spell : (p ns : List ℕ) → feedless p ≡ true → feedless (spell p ns) ≡ true
-unfolding feedless spell
-feedless-spell [] ns a = refl
-feedless-spell (c ∷ p) [] a = let k = feedless-first c p a in feedless-cons c (spell p []) (k .0) (feedless-spell p [] (k .1))
-feedless-spell (c ∷ p) (n ∷ ns) a =
-    let k = feedless-first c p a in
-    go (isPlace c) refl (k .0) (λ ms. feedless-spell p ms (k .1))
-  where
-    go : (x : Bool) → isPlace c ≡ x → eqb c 10 ≡ false → ((ms : List ℕ) → feedless (spell p ms) ≡ true) → feedless (spell (c ∷ p) (n ∷ ns)) ≡ true
-    go true e f ih = rw (spell-place c p e n ns) (feedless-append (decimal n) (spell p ns) (feedless-digits (decimal n) (all-decimal n)) (ih ns))
-    go false e f ih = rw (spell-byte c p e (n ∷ ns)) (feedless-cons c (spell p (n ∷ ns)) f (ih (n ∷ ns)))
-
--- a form's spelling has none
 heading-feedless : (g : Gap) (ns : List ℕ) → feedless (spell (headPattern g) ns) ≡ true
 unfolding feedless bytes oneGapPattern twoGapsPattern
 heading-feedless (Both b) ns = feedless-spell oneGapPattern ns refl

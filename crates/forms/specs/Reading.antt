@@ -3,7 +3,6 @@ use Prim.Native.Nat.{ℕ, _+_}
 use mathlib.Core.List.{List}
 use mathlib.Core.Option.{Option, none, some}
 use lib.ListN.{getD}
-use Rattle.geometry.specs.declared.Rect.{Rect}
 use Rattle.spelling.specs.Pattern.{readAs}
 use Rattle.forms.specs.declared.Head.{Head}
 use Rattle.forms.specs.declared.Form.{Form}
@@ -13,7 +12,7 @@ use Rattle.forms.specs.declared.Gap.the-variants.{Both, Each}
 use Rattle.forms.specs.declared.Kind.{Kind}
 use Rattle.forms.specs.declared.Kind.the-variants.{Drawn, Dummy}
 use Rattle.forms.specs.Limits.{Limits}
-use Rattle.forms.specs.Forms.{oneGapPattern, twoGapsPattern, rectPattern, dummyPattern, fillPattern, endPattern}
+use Rattle.forms.specs.Spellings.{oneGapPattern, twoGapsPattern, rectPattern, dummyPattern, fillPattern, endPattern}
 
 -- the head by a spelling's numbers before the gaps, the gaps, and its numbers from place i on, behind them
 abbrev pub headBy : (ns : List ℕ) (gap : Gap) (i : ℕ) → Head

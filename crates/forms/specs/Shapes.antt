@@ -4,9 +4,9 @@ use Prim.Native.Nat.{ℕ}
 use mathlib.Core.Bool.{Bool, true, false}
 use mathlib.Core.List.{List, [], _∷_, map}
 use Rattle.geometry.specs.declared.Rect.{Rect}
-use Rattle.fill.specs.declared.Keepout.{Keepout}
 use Rattle.forms.specs.declared.Gap.{Gap}
 use Rattle.forms.specs.declared.Gap.the-variants.{Both, Each}
+use Rattle.forms.specs.declared.Head.{Head}
 use Rattle.forms.specs.declared.Kind.{Kind}
 use Rattle.forms.specs.declared.Kind.the-variants.{Drawn, Dummy}
 use Rattle.forms.specs.declared.Shape.{Shape}
@@ -32,9 +32,16 @@ unfoldable pub rectanglesOf : Kind → List Shape → List Rect
 rectanglesOf k [] = []
 rectanglesOf k (s ∷ ss) = elim (isKind k (s .kind)) [ true ↦ s .rect ∷ rectanglesOf k ss | false ↦ rectanglesOf k ss ]
 
--- a shape as fill sees it, with the gap of its kind; and all shapes
-abbrev pub keepoutOf : Gap → Shape → Keepout
-keepoutOf g s = record { rect = s .rect; gap = gapFor g (s .kind) }
-
-abbrev pub keepouts : Gap → List Shape → List Keepout
-keepouts g ss = map (keepoutOf g) ss
+-- a head that says something else of gaps
+abbrev pub withGap : Head → Gap → Head
+withGap h g =
+    record {
+      size = h .size;
+      window = h .window;
+      cut = h .cut;
+      gap = g;
+      lower = h .lower;
+      upper = h .upper;
+      accuracy = h .accuracy;
+      levels = h .levels;
+    }

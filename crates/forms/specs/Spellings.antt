@@ -1,18 +1,48 @@
--- What a line spells: the spelling of a form by its numbers, and a form by its line.
+-- Document 01, "The job file", with the dummies of document 02's request 5: how each form is spelled.
 use Prim.Native.Nat.{ℕ}
 use mathlib.Core.Path.{_≡_}
-use mathlib.Core.Bool.{Bool, true, not, _&&_}
+use mathlib.Core.Bool.{true}
 use mathlib.Core.List.{List, [], _∷_}
-use lib.Dec.{eqb}
+use Rattle.spelling.specs.Text.{bytes}
 use Rattle.spelling.specs.Decimal.{EachShort}
 use Rattle.spelling.specs.Pattern.{spell}
 use Rattle.forms.specs.declared.Form.{Form}
 use Rattle.forms.specs.declared.Form.the-variants.{Unknown, Heading, Metal, Fill, End}
 use Rattle.forms.specs.declared.Gap.{Gap}
 use Rattle.forms.specs.declared.Gap.the-variants.{Both, Each}
-use Rattle.forms.specs.declared.Head.{Head}
+use Rattle.forms.specs.declared.Kind.{Kind}
+use Rattle.forms.specs.declared.Kind.the-variants.{Drawn, Dummy}
 use Rattle.forms.specs.Limits.{Limits}
-use Rattle.forms.specs.Forms.{known, headPattern, shapePattern, fillPattern, endPattern}
+use Rattle.forms.specs.Forms.{known}
+
+-- the spellings, without the line feed; each # is a number
+unfoldable pub oneGapPattern : List ℕ
+oneGapPattern = bytes "(job (size #) (window #) (cut #) (gap #) (bounds # #) (zoom # #))"
+
+unfoldable pub twoGapsPattern : List ℕ
+twoGapsPattern = bytes "(job (size #) (window #) (cut #) (gap # #) (bounds # #) (zoom # #))"
+
+-- the head's, by what it says of gaps
+abbrev pub headPattern : Gap → List ℕ
+headPattern (Both b) = oneGapPattern
+headPattern (Each b d) = twoGapsPattern
+
+unfoldable pub rectPattern : List ℕ
+rectPattern = bytes "(rect # # # #)"
+
+unfoldable pub dummyPattern : List ℕ
+dummyPattern = bytes "(dummy # # # #)"
+
+-- a shape's, by its kind
+abbrev pub shapePattern : Kind → List ℕ
+shapePattern Drawn = rectPattern
+shapePattern Dummy = dummyPattern
+
+unfoldable pub fillPattern : List ℕ
+fillPattern = bytes "(fill # # #)"
+
+unfoldable pub endPattern : List ℕ
+endPattern = bytes "(end)"
 
 -- the gaps, in front of the numbers that follow them
 abbrev pub gapNumbers : Gap → List ℕ → List ℕ
@@ -40,22 +70,3 @@ pub record Spells (limits : Limits) (line : List ℕ) (f : Form) : Type 0 where
   pub is-known : known f ≡ true
   pub spelling : line ≡ spellingOf f
   pub short : EachShort (limits .digits) (numbersOf f)
-
--- a text without a line feed
-unfoldable pub feedless : List ℕ → Bool
-feedless [] = true
-feedless (b ∷ s) = not (eqb b 10) && feedless s
-
--- a head that says something else of gaps
-abbrev pub withGap : Head → Gap → Head
-withGap h g =
-    record {
-      size = h .size;
-      window = h .window;
-      cut = h .cut;
-      gap = g;
-      lower = h .lower;
-      upper = h .upper;
-      accuracy = h .accuracy;
-      levels = h .levels;
-    }

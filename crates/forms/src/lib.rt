@@ -1,25 +1,25 @@
 // The forms of the job file: what each line may say, how it is spelled, and what is
-// asked of it by itself, whatever stands before it.
+// asked of it by itself, or by the head alone.
+mod gaps;
+mod layout;
 mod limits;
 mod lines;
 mod ranges;
-mod shapes;
-mod tiling;
 
+pub use gaps::gap_for;
 use geometry::Rect;
+pub use layout::fits_layout;
+pub use layout::has_tile;
+pub use layout::head_agrees;
+pub use layout::tile_count;
+pub use layout::tile_side;
+pub use layout::tiles_across;
 pub use limits::MOST_BYTES;
 pub use limits::MOST_SHAPES;
 pub use limits::MOST_TILES;
 pub use lines::form_of;
-pub use lines::rank;
+pub use lines::is_known;
 pub use ranges::in_range;
-pub use shapes::gap_for;
-pub use tiling::fits_layout;
-pub use tiling::head_agrees;
-pub use tiling::plan_of;
-pub use tiling::tile_count;
-pub use tiling::tile_side;
-pub use tiling::tiles_across;
 
 // What the head says of the least gap between fill and metal: (gap B), the same for
 // drawn metal and for dummies, or (gap B D), B for drawn metal and D for dummies.

@@ -12,7 +12,7 @@ ghost use mathlib.Core.Path.{_≡_};
 ghost use Prim.Native.Nat.{_+_, _<_};
 ghost use Rattle.spelling.specs.Scanning.{mostValues};
 ghost use Rattle.forms.specs.Limits.{unitLimits};
-ghost use Rattle.forms.specs.Forms.{rankOf};
+ghost use Rattle.forms.specs.Forms.{known};
 ghost use Rattle.forms.specs.Reading.{headBy, oneGapForm, twoGapsForm, shapeForm, fillForm, headForm, rareForm, formOf};
 
 // The head by a spelling's numbers before the gaps, the gaps, and its numbers from
@@ -126,20 +126,19 @@ pub fn form_of(line: &[u8]) -> Form
     rare_form(line)
 }
 
-// Where a form comes in a file: the head, shapes, fills, the end; 0 for a
-// line that is none of the spellings.
-pub fn rank(f: Form) -> u64
-    ensures { λ r. ⌜ r ≡ rankOf f ⌝ }
+// Whether a line is one of the spellings.
+pub fn is_known(f: Form) -> bool
+    ensures { λ r. ⌜ r ≡ known f ⌝ }
 {
     match f {
-        Form::Unknown => 0,
-        Form::Heading(_) => 1,
-        Form::Metal(_) => 2,
+        Form::Unknown => false,
+        Form::Heading(_) => true,
+        Form::Metal(_) => true,
         Form::Fill {
             column: _,
             row: _,
             amount: _,
-        } => 3,
-        Form::End => 4,
+        } => true,
+        Form::End => true,
     }
 }

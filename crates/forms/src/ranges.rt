@@ -20,6 +20,8 @@ fn in_span(lo: u64, hi: u64, n: u64) -> bool
     lo <= n && n <= hi
 }
 
+// Both of two tests: a call says what it found of both, where `&&` would say it of
+// each way apart.
 pub(crate) fn both(a: bool, b: bool) -> bool
     ensures { λ r. ⌜ r ≡ (a && b) ⌝ }
 {
@@ -67,6 +69,7 @@ fn fill_in_range(column: u64, row: u64, amount: u64) -> bool
     both(tile, in_span(1, MOST_AMOUNT, amount))
 }
 
+// Whether every number of a form is in its range.
 pub fn in_range(f: Form) -> bool
     ensures { λ r. ⌜ r ≡ inRange unitLimits f ⌝ }
 {

@@ -13,14 +13,15 @@ use Rattle.fill.specs.Judge.{numberAt}
 use Rattle.fill.proofs.Loads.{tile-fillable}
 use Rattle.forms.specs.declared.Form.{Form}
 use Rattle.forms.specs.Limits.{unitLimits}
-use Rattle.forms.specs.Shapes.{rectangles, keepouts}
-use Rattle.forms.specs.Forms.{tileSide, tilesAcross}
+use Rattle.forms.specs.Shapes.{rectangles}
+use Rattle.forms.specs.Forms.{tileSide, tilesAcross, tileCount}
 use Rattle.forms.proofs.Heads.{HeadFacts, head-facts, positive}
 use Rattle.jobfile.specs.declared.Turn.the-variants.{Before}
+use Rattle.jobfile.specs.Filling.{keepouts}
 use Rattle.jobfile.specs.Faults.{Standing, roomOf}
 use Rattle.jobfile.specs.File.{accepted, outcomeOf}
 use Rattle.jobfile.specs.Acceptance.{Good, none, next}
-use Rattle.jobfile.specs.Held.{tileCount, Sound, tableOf, padded}
+use Rattle.jobfile.specs.Held.{Sound, tableOf, padded}
 use Rattle.jobfile.proofs.Tables.{table-layer}
 use Rattle.jobfile.proofs.Sound.{sound-after, sound-start}
 use Rattle.jobfile.proofs.Files.{acceptance}

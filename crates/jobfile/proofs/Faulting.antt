@@ -24,14 +24,15 @@ use Rattle.forms.specs.declared.Form.{Form}
 use Rattle.forms.specs.declared.Form.the-variants.{Unknown, Heading, Metal, Fill, End}
 use Rattle.forms.specs.declared.Shape.{Shape}
 use Rattle.forms.specs.Limits.{unitLimits}
-use Rattle.forms.specs.Shapes.{rectangles, keepouts}
-use Rattle.forms.specs.Forms.{inRange, tileSide, tilesAcross, agrees, rankOf, known, fitsLayout, GoodHead}
-use Rattle.forms.proofs.Heads.{HeadFacts, head-facts, tile-end}
+use Rattle.forms.specs.Shapes.{rectangles}
+use Rattle.forms.specs.Forms.{known, inRange, tileSide, tilesAcross, tileCount, agrees, fitsLayout, hasTile, GoodHead}
+use Rattle.forms.proofs.Heads.{HeadFacts, head-facts, has-tile, tile-end}
 use Rattle.jobfile.specs.declared.State.{State}
 use Rattle.jobfile.specs.declared.Turn.{Turn}
 use Rattle.jobfile.specs.declared.Turn.the-variants.{Before, Shapes, Fills}
-use Rattle.jobfile.specs.Faults.{Standing, inTurn, check, shapeFault, fillFault, ownFault, lineFault}
-use Rattle.jobfile.specs.Held.{cornersRoom, shapesRoom, amountsRoom, tileCount, shapesIn, standing, tableOf, AmountsKept, Held, ShapesHeld, TileIn, RegionsHeld, freeRoom}
+use Rattle.jobfile.specs.Filling.{keepouts}
+use Rattle.jobfile.specs.Faults.{Standing, rankOf, inTurn, check, shapeFault, fillFault, ownFault, lineFault}
+use Rattle.jobfile.specs.Held.{cornersRoom, shapesRoom, amountsRoom, shapesIn, standing, tableOf, AmountsKept, Held, ShapesHeld, TileIn, RegionsHeld, freeRoom}
 use Rattle.jobfile.proofs.ShapeTables.{rects-by, by-length, table-corners, table-length}
 use Rattle.jobfile.proofs.Tables.{table-layer}
 use Rattle.jobfile.proofs.Sound.{after-head}
@@ -47,9 +48,6 @@ module _ (t : Turn) (f : Form) (n : ℕ) (e : n ≡ rankOf f) where
 
   pub turn-fills : t ≡ Fills → leb 3 n ≡ inTurn t f
   turn-fills q = rw (e, q)
-
-pub known-by : (f : Form) (n : ℕ) → n ≡ rankOf f → ltb 0 n ≡ known f
-known-by f n e = rw e
 
 -- ---- a head
 
@@ -111,40 +109,42 @@ module _ (s : State) (shapes : List ℕ) (r : Rect) (whole : 4 * s .count ≤ le
 
 -- ---- a fill
 
-module _ (h : Head) (amounts : List ℕ) (i j p t : ℕ) (e : t ≡ tilesAcross h) where
-  pub fill-column : (room : ℕ) → t ≤ i → 7 ≡ fillFault h (take (tileCount h) amounts) room i j p
+-- the tile lies in the layout of a good head
+pub tile-in : (h : Head) (i j : ℕ) → GoodHead h → hasTile h i j ≡ true → TileIn h i j
+tile-in h i j g e = let k = has-tile h i j e in record { few = head-facts h g .tiles-most; column = k .0; row = k .1 }
+
+-- its place among the tiles
+tile-inside : (h : Head) (i j : ℕ) → hasTile h i j ≡ true → tileIndex (tilesAcross h) i j < tileCount h
+tile-inside h i j e = let k = has-tile h i j e in digits-lt (k .1) (k .0)
+
+-- and in the table of amounts
+pub tile-in-table : (h : Head) (amounts : List ℕ) (i j at : ℕ) → AmountsKept h amounts → hasTile h i j ≡ true → at ≡ tileIndex (tilesAcross h) i j →
+    at < amountsRoom
+tile-in-table h amounts i j at k e place = rw place (lt-of-lt-of-le (tile-inside h i j e) (k .tiles))
+
+module _ (h : Head) (amounts : List ℕ) (i j p : ℕ) (t : Bool) (a : t ≡ hasTile h i j) where
+  pub fill-outside : (room : ℕ) → t ≡ false → 7 ≡ fillFault h (take (tileCount h) amounts) room i j p
   unfolding fillFault
-  fill-column room n = rw (← e, le-ltb i t n)
+  fill-outside room b = rw (← a, b)
 
-  module _ (hi : i < t) where
-    pub fill-row : (room : ℕ) → t ≤ j → 7 ≡ fillFault h (take (tileCount h) amounts) room i j p
+  module _ (b : t ≡ true) (at : ℕ) (place : at ≡ tileIndex (tilesAcross h) i j) where
+    stands : numberAt (take (tileCount h) amounts) (tilesAcross h) i j ≡ getD amounts at 0
+    stands =
+        getD-take (tileCount h) amounts (tileIndex (tilesAcross h) i j) 0 (tile-inside h i j (sym a ∙ b))
+        ∙ ap (λ (k : ℕ). getD amounts k 0) (sym place)
+
+    pub fill-taken : (room : ℕ) → (getD amounts at 0 ≡ 0 → ⊥) → 10 ≡ fillFault h (take (tileCount h) amounts) room i j p
     unfolding fillFault
-    fill-row room n = rw (← e, lt-ltb i t hi, le-ltb j t n)
+    fill-taken room n = rw (← a, b, stands, ne-eqb (getD amounts at 0) 0 n)
 
-    module _ (hj : j < t) (at : ℕ) (place : at ≡ tileIndex (tilesAcross h) i j) where
-      inside : tileIndex (tilesAcross h) i j < tileCount h
-      inside = rw (← e) (digits-lt hj hi)
-
-      stands : numberAt (take (tileCount h) amounts) (tilesAcross h) i j ≡ getD amounts at 0
-      stands = getD-take (tileCount h) amounts (tileIndex (tilesAcross h) i j) 0 inside ∙ ap (λ (k : ℕ). getD amounts k 0) (sym place)
-
-      pub fill-taken : (room : ℕ) → (getD amounts at 0 ≡ 0 → ⊥) → 10 ≡ fillFault h (take (tileCount h) amounts) room i j p
+    module _ (free : getD amounts at 0 ≡ 0) (found room : ℕ) (area : found ≡ room) where
+      pub fill-over : found < p → 11 ≡ fillFault h (take (tileCount h) amounts) room i j p
       unfolding fillFault
-      fill-taken room n = rw (← e, lt-ltb i t hi, lt-ltb j t hj, e, stands, ne-eqb (getD amounts at 0) 0 n)
+      fill-over n = rw (← a, b, stands, eq-eqb (getD amounts at 0) 0 free, ← area, lt-leb p found n)
 
-      module _ (free : getD amounts at 0 ≡ 0) (found room : ℕ) (area : found ≡ room) where
-        pub fill-over : found < p → 11 ≡ fillFault h (take (tileCount h) amounts) room i j p
-        unfolding fillFault
-        fill-over n = rw (← e, lt-ltb i t hi, lt-ltb j t hj, e, stands, eq-eqb (getD amounts at 0) 0 free, ← area, lt-leb p found n)
-
-        pub fill-right : p ≤ found → 0 ≡ fillFault h (take (tileCount h) amounts) room i j p
-        unfolding fillFault
-        fill-right n = rw (← e, lt-ltb i t hi, lt-ltb j t hj, e, stands, eq-eqb (getD amounts at 0) 0 free, ← area, le-leb p found n)
-
--- the place of a tile is in the table of amounts
-pub tile-in-table : (h : Head) (amounts : List ℕ) (i j t at : ℕ) → AmountsKept h amounts → t ≡ tilesAcross h → i < t → j < t →
-    at ≡ tileIndex (tilesAcross h) i j → at < amountsRoom
-tile-in-table h amounts i j t at k e hi hj place = rw place (lt-of-lt-of-le (rw (← e) (digits-lt hj hi)) (k .tiles))
+      pub fill-right : p ≤ found → 0 ≡ fillFault h (take (tileCount h) amounts) room i j p
+      unfolding fillFault
+      fill-right n = rw (← a, b, stands, eq-eqb (getD amounts at 0) 0 free, ← area, le-leb p found n)
 
 -- what the fillable area of a tile asks of the tile's box
 pub tile-small : (h : Head) (i j : ℕ) (b : Rect) → GoodHead h → TileIn h i j → b ≡ tile (tileSide h) i j → SmallBox b

@@ -1,7 +1,7 @@
 -- A form has no fault exactly if it passes every test.
 use Prim.Native.Nat.{ℕ, _≤_, _<_}
 use mathlib.Core.Path.{_≡_, refl}
-use mathlib.Core.Bool.{Bool, true, false, not, _&&_}
+use mathlib.Core.Bool.{Bool, true, false, not}
 use mathlib.Core.List.{List}
 use native.Mathlib.Omega.{arith}
 use lib.Dec.{leb, ltb, eqb, lit<}
@@ -10,12 +10,12 @@ use borrow.Author.Tests.{ltb-true, lt-ltb, leb-true, eqb-true, not-true}
 use Rattle.geometry.specs.declared.Rect.{Rect}
 use Rattle.geometry.specs.Layout.{sharesSquare}
 use Rattle.fill.specs.Judge.{numberAt}
-use Rattle.laws.proofs.Tests.{both}
 use Rattle.forms.specs.declared.Form.{Form}
 use Rattle.forms.specs.declared.Head.{Head}
 use Rattle.forms.specs.Limits.{Limits}
 use Rattle.forms.specs.Shapes.{rectangles}
-use Rattle.forms.specs.Forms.{inRange, tilesAcross, known, fitsLayout}
+use Rattle.forms.specs.Forms.{known, inRange, tilesAcross, fitsLayout, hasTile}
+use Rattle.forms.proofs.Heads.{has-tile}
 use Rattle.jobfile.specs.Faults.{Standing, inTurn, check, shapeFault, fillFault, ownFault, lineFault}
 
 -- the test passed, and the tests after it found no fault
@@ -69,11 +69,10 @@ pub record NoFillFault (h : Head) (amounts : List ℕ) (room i j p : ℕ) : Type
 pub no-fill-fault : (h : Head) (amounts : List ℕ) (room i j p : ℕ) → fillFault h amounts room i j p ≡ 0 → NoFillFault h amounts room i j p
 unfolding fillFault
 no-fill-fault h amounts room i j p e =
-    let inside = ltb i (tilesAcross h) && ltb j (tilesAcross h) in
     let free = eqb (numberAt amounts (tilesAcross h) i j) 0 in
     let fits = leb p room in
-    let a = check-passes inside 7 (check free 10 (check fits 11 0)) (lit< tt) e in
+    let a = check-passes (hasTile h i j) 7 (check free 10 (check fits 11 0)) (lit< tt) e in
     let b = check-passes free 10 (check fits 11 0) (lit< tt) (a .1) in
     let c = check-passes fits 11 0 (lit< tt) (b .1) in
-    let k = both (ltb i (tilesAcross h)) (ltb j (tilesAcross h)) (a .0) in
-    record { column = ltb-true _ _ (k .0); row = ltb-true _ _ (k .1); free = eqb-true _ _ (b .0); fits = leb-true _ _ (c .0) }
+    let k = has-tile h i j (a .0) in
+    record { column = k .0; row = k .1; free = eqb-true _ _ (b .0); fits = leb-true _ _ (c .0) }

@@ -10,15 +10,16 @@ use lib.Dec.{leb, ltb, eqb}
 use lib.Seq.{take-all}
 use lib.ListN.{length, drop, length-drop}
 use borrow.Author.Tests.{eqb-true, eqb-false, leb-true, leb-false, ltb-true, ltb-false}
-use Rattle.spelling.specs.Text.{inFront, pieces}
+use Rattle.spelling.specs.Text.{inFront, pieces, feedless}
 use Rattle.spelling.specs.Decimal.{EachShort}
 use Rattle.spelling.specs.Scanning.{lineLength}
+use Rattle.spelling.proofs.Feedless.{feedless-first}
 use Rattle.forms.specs.declared.Form.{Form}
 use Rattle.forms.specs.Limits.{Limits}
 use Rattle.forms.specs.Forms.{known}
-use Rattle.forms.specs.Spellings.{numbersOf, spellingOf, Spells, feedless}
+use Rattle.forms.specs.Spellings.{numbersOf, spellingOf, Spells}
 use Rattle.forms.specs.Reading.{formOf}
-use Rattle.forms.proofs.Spelled.{form-spelled, spelling-read, spells-read, feedless-first, spelling-feedless}
+use Rattle.forms.proofs.Spelled.{form-spelled, spelling-read, spells-read, spelling-feedless}
 use Rattle.jobfile.specs.declared.Turn.{Turn}
 use Rattle.jobfile.specs.declared.Turn.the-variants.{Before, Shapes, Fills, Done}
 use Rattle.jobfile.specs.Faults.{Standing, beforeHead, lineFault, standsAfter}

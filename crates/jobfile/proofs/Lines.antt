@@ -16,6 +16,7 @@ use Rattle.spelling.proofs.Lines.{pieces-line, pieces-last}
 use Rattle.forms.specs.declared.Head.{Head}
 use Rattle.forms.specs.declared.Form.{Form}
 use Rattle.forms.specs.Limits.{Limits, unitLimits}
+use Rattle.forms.specs.Forms.{tileCount}
 use Rattle.forms.specs.Reading.{formOf}
 use Rattle.jobfile.specs.declared.Near.the-variants.{NoRow}
 use Rattle.jobfile.specs.declared.State.{State}
@@ -26,7 +27,7 @@ use Rattle.jobfile.specs.declared.Turn.{Turn}
 use Rattle.jobfile.specs.declared.Turn.the-variants.{Before, Shapes, Fills, Done}
 use Rattle.jobfile.specs.Faults.{Standing, beforeHead, noHead, lineFault, standsAfter}
 use Rattle.jobfile.specs.File.{Outcome, refused, atEnd, afterLast, readLines, outcomeOf}
-use Rattle.jobfile.specs.Held.{amountsRoom, tileCount, shapesBy, shapesIn, standing, tableOf, padded, AmountsKept, Held, Cleared, Entered, firstLine, firstFault, LineRead, endFault, jobOf, asJob}
+use Rattle.jobfile.specs.Held.{amountsRoom, shapesBy, shapesIn, standing, tableOf, padded, AmountsKept, Held, Cleared, Entered, firstLine, firstFault, LineRead, endFault, jobOf, asJob}
 use Rattle.jobfile.proofs.Tables.{zeros}
 use Rattle.jobfile.proofs.Sound.{sound-start}
 

@@ -19,13 +19,14 @@ use Rattle.forms.specs.declared.Head.{Head}
 use Rattle.forms.specs.declared.Kind.{Kind}
 use Rattle.forms.specs.declared.Shape.{Shape}
 use Rattle.forms.specs.Limits.{Limits}
-use Rattle.forms.specs.Shapes.{gapFor, keepoutOf, keepouts}
+use Rattle.forms.specs.Shapes.{gapFor, withGap}
 use Rattle.forms.specs.Forms.{gapInRange, inRange, tileSide, known}
-use Rattle.forms.specs.Spellings.{numbersOf, spellingOf, withGap}
+use Rattle.forms.specs.Spellings.{numbersOf, spellingOf}
 use Rattle.forms.specs.Reading.{formOf}
 use Rattle.forms.proofs.Spelled.{form-spelled, spelling-read, spelling-feedless}
 use Rattle.jobfile.specs.declared.Turn.{Turn}
 use Rattle.jobfile.specs.declared.Turn.the-variants.{Before, Shapes, Fills, Done}
+use Rattle.jobfile.specs.Filling.{keepoutOf, keepouts}
 use Rattle.jobfile.specs.Faults.{Standing, beforeHead, check, inTurn, shapeFault, fillFault, lineFault, standsAfter}
 use Rattle.jobfile.specs.File.{Outcome, refused, atEnd, afterLast, readLines, outcomeOf}
 use Rattle.jobfile.specs.Gaps.{standingWith, outcomeWith, fileWith, NoneOf, GapsDecide}
@@ -158,7 +159,7 @@ head-fault : (m : Limits) (h : Head) (g g′ : Gap) → gapInRange m g ≡ true 
 unfolding lineFault
 head-fault m h g g′ r r′ = rw (r, r′)
 
--- the gaps agree for a line that is read as a shape, since no other line is one of a kind for which they differ
+-- the gaps agree for a line that is read as a shape, since no line is one of a kind for which they differ
 agree : (m : Limits) (g g′ : Gap) (line : List ℕ) (more : List (List ℕ)) (s : Shape) → formOf m line ≡ Metal s →
     (gapFor g (s .kind) ≡ gapFor g′ (s .kind)) ⊎ NoneOf m (s .kind) (line ∷ more) → gapFor g (s .kind) ≡ gapFor g′ (s .kind)
 unfolding NoneOf

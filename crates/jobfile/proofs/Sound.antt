@@ -20,11 +20,11 @@ use Rattle.forms.specs.declared.Form.the-variants.{Unknown, Heading, Metal, Fil
 use Rattle.forms.specs.declared.Shape.{Shape}
 use Rattle.forms.specs.Limits.{unitLimits}
 use Rattle.forms.specs.Shapes.{rectangles}
-use Rattle.forms.specs.Forms.{rectInRange, tilesAcross, agrees, fitsLayout}
+use Rattle.forms.specs.Forms.{rectInRange, tilesAcross, agrees, fitsLayout, tileCount}
 use Rattle.jobfile.specs.declared.Turn.{Turn}
 use Rattle.jobfile.specs.declared.Turn.the-variants.{Before, Shapes, Fills, Done}
 use Rattle.jobfile.specs.Faults.{Standing, beforeHead, inTurn, roomOf, lineFault, standsAfter}
-use Rattle.jobfile.specs.Held.{tileCount, GoodRects, Sound}
+use Rattle.jobfile.specs.Held.{GoodRects, Sound}
 use Rattle.jobfile.proofs.Faultless.{check-passes, NoFault, no-fault, NoShapeFault, no-shape-fault, NoFillFault, no-fill-fault}
 use Rattle.jobfile.proofs.Tables.{getD-zeros}
 

@@ -6,9 +6,10 @@ use mathlib.Core.Bool.{true}
 use mathlib.Core.List.{List, [], _∷_, _++_}
 use lib.ListN.{length}
 use Rattle.spelling.specs.Decimal.{EachShort}
+use Rattle.spelling.specs.Text.{feedless}
 use Rattle.forms.specs.declared.Form.{Form}
 use Rattle.forms.specs.Limits.{Limits, Widened}
-use Rattle.forms.specs.Spellings.{numbersOf, spellingOf, Spells, feedless}
+use Rattle.forms.specs.Spellings.{numbersOf, spellingOf, Spells}
 use Rattle.jobfile.specs.declared.Turn.the-variants.{Done}
 use Rattle.jobfile.specs.Faults.{Standing, beforeHead, lineFault, standsAfter}
 use Rattle.jobfile.specs.File.{refused, accepted, outcomeOf}

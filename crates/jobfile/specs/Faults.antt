@@ -1,6 +1,6 @@
 -- Document 01, "Faults that come from the input" and "Faults that come from what already stands": the faults of one line.
-use Prim.Native.Nat.{ℕ, _*_}
-use mathlib.Core.Bool.{Bool, true, false, not, _&&_}
+use Prim.Native.Nat.{ℕ}
+use mathlib.Core.Bool.{Bool, true, false, not}
 use mathlib.Core.List.{List, [], _∷_, _++_}
 use lib.Dec.{leb, ltb, eqb}
 use lib.ListN.{length, set, replicate}
@@ -14,10 +14,11 @@ use Rattle.forms.specs.declared.Form.the-variants.{Unknown, Heading, Metal, Fil
 use Rattle.forms.specs.declared.Gap.the-variants.{Both}
 use Rattle.forms.specs.declared.Shape.{Shape}
 use Rattle.forms.specs.Limits.{Limits}
-use Rattle.forms.specs.Shapes.{rectangles, keepouts}
-use Rattle.forms.specs.Forms.{rankOf, known, inRange, tileSide, tilesAcross, agrees, fitsLayout}
+use Rattle.forms.specs.Shapes.{rectangles}
+use Rattle.forms.specs.Forms.{known, inRange, tileSide, tilesAcross, tileCount, agrees, fitsLayout, hasTile}
 use Rattle.jobfile.specs.declared.Turn.{Turn}
 use Rattle.jobfile.specs.declared.Turn.the-variants.{Before, Shapes, Fills, Done}
+use Rattle.jobfile.specs.Filling.{keepouts}
 
 -- what already stands: the turn, the head, the shapes in file order, the amounts row by row
 pub record Standing : Type 0 where
@@ -32,6 +33,14 @@ noHead = record { size = 0; window = 0; cut = 0; gap = Both 0; lower = 0; upper 
 -- what stands before the first line
 abbrev pub beforeHead : Standing
 beforeHead = record { turn = Before; head = noHead; shapes = []; amounts = [] }
+
+-- where a form comes in a file; 0 for a line that is none of the spellings
+abbrev pub rankOf : Form → ℕ
+rankOf Unknown = 0
+rankOf (Heading h) = 1
+rankOf (Metal s) = 2
+rankOf (Fill i j p) = 3
+rankOf End = 4
 
 -- whether a form comes in turn: the head first and once, then shapes, then fills, then the end, and nothing after it
 abbrev pub inTurn : Turn → Form → Bool
@@ -63,14 +72,14 @@ roomOf st i j = fillableArea (keepouts (st .head .gap) (st .shapes)) (tile (tile
 unfoldable pub fillFault : Head → (amounts : List ℕ) → (room i j p : ℕ) → ℕ
 fillFault h amounts room i j p =
     -- 7: I or J is not below N/(W/R)
-    check (ltb i (tilesAcross h) && ltb j (tilesAcross h)) 7
+    check (hasTile h i j) 7
     -- 10: the tile has a fill already, which is an amount other than 0, since fault 3 refuses P = 0
     (check (eqb (numberAt amounts (tilesAcross h) i j) 0) 10
     -- 11: P exceeds the tile's fillable area
     (check (leb p room) 11
     0))
 
--- the faults that each form may have by itself; 5: the head disagrees. An unknown form does not come here: `lineFault`
+-- the faults that are each form's own; 5: the head disagrees. An unknown form does not come here: `lineFault`
 abbrev pub ownFault : Limits → Standing → Form → ℕ
 ownFault limits st Unknown = 2
 ownFault limits st (Heading h) = check (agrees limits h) 5 0
@@ -85,7 +94,7 @@ lineFault limits st f = check (known f) 2 (check (inRange limits f) 3 (check (in
 -- what stands after a good line, which is never an unknown form
 unfoldable pub standsAfter : Standing → Form → Standing
 standsAfter st Unknown = st
-standsAfter st (Heading h) = record { turn = Shapes; head = h; shapes = []; amounts = replicate (tilesAcross h * tilesAcross h) 0 }
+standsAfter st (Heading h) = record { turn = Shapes; head = h; shapes = []; amounts = replicate (tileCount h) 0 }
 standsAfter st (Metal s) = record { turn = Shapes; head = st .head; shapes = st .shapes ++ (s ∷ []); amounts = st .amounts }
 standsAfter st (Fill i j p) =
     record { turn = Fills; head = st .head; shapes = st .shapes; amounts = set (st .amounts) (tileIndex (tilesAcross (st .head)) i j) p }

@@ -1,6 +1,6 @@
--- Of what the head says of gaps, only the gap of each kind of shape that a file has plays a part: files that are the same but for their gaps. So D plays
--- no part where there is no dummy, B none where there is no drawn metal, and (gap B) is (gap B B). The unit's specs/Guarantee.antt says what follows for
--- what is printed.
+-- Files that are the same but for what the head says of gaps: where both heads may begin a file, only the gap of each kind of shape that the file has plays
+-- a part. So D plays no part where there is no dummy, B none where there is no drawn metal, and (gap B) is (gap B B). The unit's specs/Guarantee.antt says
+-- what follows for what is printed.
 use Prim.Native.Nat.{ℕ, _≤_}
 use mathlib.Core.Path.{_≡_}
 use mathlib.Core.Bool.{true}
@@ -15,13 +15,13 @@ use Rattle.forms.specs.declared.Head.{Head}
 use Rattle.forms.specs.declared.Kind.{Kind}
 use Rattle.forms.specs.declared.Shape.{Shape}
 use Rattle.forms.specs.Limits.{Limits}
-use Rattle.forms.specs.Shapes.{gapFor}
+use Rattle.forms.specs.Shapes.{gapFor, withGap}
 use Rattle.forms.specs.Forms.{gapInRange}
-use Rattle.forms.specs.Spellings.{withGap, numbersOf, spellingOf, Spells}
+use Rattle.forms.specs.Spellings.{numbersOf, spellingOf, Spells}
 use Rattle.jobfile.specs.Faults.{Standing}
 use Rattle.jobfile.specs.File.{Outcome, refused, accepted, outcomeOf}
 
--- what stands, and what a file comes to, under such a head
+-- what stands, and what a file comes to, under a head that says something else of gaps
 abbrev pub standingWith : Gap → Standing → Standing
 standingWith g st = record { turn = st .turn; head = withGap (st .head) g; shapes = st .shapes; amounts = st .amounts }
 

@@ -20,8 +20,8 @@ use Rattle.forms.specs.declared.Kind.the-variants.{Drawn, Dummy}
 use Rattle.forms.specs.declared.Shape.{Shape}
 use Rattle.forms.specs.declared.Form.{Form}
 use Rattle.forms.specs.Limits.{Limits, unitLimits}
-use Rattle.forms.specs.Shapes.{rectangles, keepoutOf, keepouts}
-use Rattle.forms.specs.Forms.{GoodHead, rectInRange, fitsLayout, tileSide, tilesAcross}
+use Rattle.forms.specs.Shapes.{rectangles}
+use Rattle.forms.specs.Forms.{rectInRange, tileSide, tilesAcross, tileCount, fitsLayout, GoodHead}
 use Rattle.forms.specs.Reading.{formOf}
 use Rattle.jobfile.specs.declared.Turn.{Turn}
 use Rattle.jobfile.specs.declared.Turn.the-variants.{Before, Shapes, Fills, Done}
@@ -31,6 +31,7 @@ use Rattle.jobfile.specs.declared.State.{State}
 use Rattle.jobfile.specs.declared.Step.{Step}
 use Rattle.jobfile.specs.declared.Ending.{Ending}
 use Rattle.jobfile.specs.declared.Job.{Job}
+use Rattle.jobfile.specs.Filling.{keepoutOf, keepouts}
 use Rattle.jobfile.specs.Faults.{Standing, beforeHead, noHead, roomOf, lineFault, standsAfter}
 use Rattle.jobfile.specs.File.{Outcome, refused, accepted}
 
@@ -47,10 +48,6 @@ regionsRoom = regionNumbers * unitLimits .shapes
 
 abbrev pub amountsRoom : ℕ
 amountsRoom = unitLimits .tiles * unitLimits .tiles
-
--- the number of tiles of a layout
-abbrev pub tileCount : Head → ℕ
-tileCount h = tilesAcross h * tilesAcross h
 
 -- a kind in a table, and back
 abbrev pub kindNumber : Kind → ℕ

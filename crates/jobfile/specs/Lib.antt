@@ -1,3 +1,4 @@
+pub mod Filling
 pub mod Faults
 pub mod File
 pub mod Acceptance

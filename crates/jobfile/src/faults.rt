@@ -10,11 +10,11 @@ use forms::Form;
 use forms::Head;
 use forms::MOST_SHAPES;
 use forms::fits_layout;
+use forms::has_tile;
 use forms::head_agrees;
 use forms::in_range;
-use forms::rank;
+use forms::is_known;
 use forms::tile_side;
-use forms::tiles_across;
 use geometry::Rect;
 use geometry::shares_square;
 ghost use mathlib.Core.Path.{_≡_};
@@ -22,14 +22,26 @@ ghost use mathlib.Core.Bool.{true};
 ghost use mathlib.Core.List.{[]};
 ghost use lib.ListN.{take};
 ghost use Rattle.forms.specs.Limits.{unitLimits};
-ghost use Rattle.forms.specs.Forms.{known, agrees};
-ghost use Rattle.jobfile.specs.Faults.{inTurn, check, shapeFault, fillFault, ownFault, lineFault};
-ghost use Rattle.jobfile.specs.Held.{tileCount, standing, AmountsKept, Held, ShapesHeld, TileIn, RegionsHeld, freeRoom};
+ghost use Rattle.forms.specs.Forms.{tileCount, agrees};
+ghost use Rattle.jobfile.specs.Faults.{rankOf, inTurn, check, shapeFault, fillFault, ownFault, lineFault};
+ghost use Rattle.jobfile.specs.Held.{standing, AmountsKept, Held, ShapesHeld, TileIn, RegionsHeld, freeRoom};
 
-fn is_known(f: Form) -> bool
-    ensures { λ r. ⌜ r ≡ known f ⌝ }
+// Where a form comes in a file: the head, shapes, fills, the end; 0 for a
+// line that is none of the spellings.
+fn rank(f: Form) -> u64
+    ensures { λ r. ⌜ r ≡ rankOf f ⌝ }
 {
-    0 < rank(f)
+    match f {
+        Form::Unknown => 0,
+        Form::Heading(_) => 1,
+        Form::Metal(_) => 2,
+        Form::Fill {
+            column: _,
+            row: _,
+            amount: _,
+        } => 3,
+        Form::End => 4,
+    }
 }
 
 // Whether a form comes in turn.
@@ -86,11 +98,7 @@ fn fill_fault(s: State, regions: &[u64], amounts: &[u64], i: u64, j: u64, p: u64
     ensures { λ n. ⌜ n ≡ fillFault (s .head) (take (tileCount (s .head)) (now (amounts .entry))) (freeRoom s (now (regions .entry)) i j) i j p ⌝ }
 {
     let head = s.head;
-    let across = tiles_across(head);
-    if across <= i {
-        return 7;
-    }
-    if across <= j {
+    if !has_tile(head, i, j) {
         return 7;
     }
     let at = tile_place(head, i, j);
@@ -103,7 +111,7 @@ fn fill_fault(s: State, regions: &[u64], amounts: &[u64], i: u64, j: u64, p: u64
     0
 }
 
-// The faults that each form may have by itself.
+// The faults that are each form's own.
 fn own_fault(s: State, f: Form, shapes: &[u64], regions: &[u64], amounts: &[u64]) -> u64
     requires { ⌜ Held s (now shapes) (now regions) (now amounts) ⌝ }
     requires { ⌜ inTurn (s .turn) f ≡ true ⌝ }

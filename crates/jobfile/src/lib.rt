@@ -1,11 +1,13 @@
 // The job file: the faults of its lines, and its reader.
 mod faults;
+mod filling;
 mod held;
 mod parts;
 mod reader;
 mod rooms;
 
 use fill::Part;
+pub use filling::plan_of;
 use forms::Head;
 use forms::MOST_BYTES;
 use reader::read_lines;

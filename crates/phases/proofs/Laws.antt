@@ -12,8 +12,8 @@ use Rattle.fill.specs.declared.Verdict.{Verdict}
 use Rattle.fill.specs.Judge.{verdictOf}
 use Rattle.forms.specs.declared.Head.{Head}
 use Rattle.forms.specs.Limits.{unitLimits}
-use Rattle.forms.specs.Forms.{planOf}
 use Rattle.jobfile.specs.declared.Job.{Job}
+use Rattle.jobfile.specs.Filling.{planOf}
 use Rattle.jobfile.specs.File.{Outcome, refused, accepted, outcomeOf}
 use Rattle.jobfile.specs.Held.{asJob}
 use Rattle.unit.specs.declared.run.Answer.{Answer}

@@ -1,4 +1,4 @@
--- One number of the answer for each phase of a job.
+-- One number of the answer for each phase of a job, for the benchmark. A buyer need not read it.
 use Prim.Native.Nat.{ℕ, zero, suc}
 use lib.ListN.{getD}
 use Rattle.fill.specs.declared.Verdict.{Verdict}

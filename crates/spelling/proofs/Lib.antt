@@ -2,6 +2,7 @@ pub mod Numerals
 pub mod Patterns
 pub mod Inverse
 pub mod Clashes
+pub mod Feedless
 pub mod Lines
 pub mod Digits
 pub mod Progress

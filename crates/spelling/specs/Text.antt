@@ -2,7 +2,7 @@
 use Prim.Native.Nat.{ℕ}
 use Prim.Native.Char.{code}
 use Prim.Native.String.{String, [] as empty, _∷_ as _then_}
-use mathlib.Core.Bool.{true, false}
+use mathlib.Core.Bool.{Bool, true, false, not, _&&_}
 use mathlib.Core.List.{List, [], _∷_}
 use lib.Dec.{eqb}
 
@@ -10,7 +10,12 @@ unfoldable pub bytes : String → List ℕ
 bytes empty = []
 bytes (c then s) = code c ∷ bytes s
 
--- ---- the lines of a file; a buyer need not read on, since jobfile's `Acceptance` speaks of spellings alone
+-- ---- the lines of a file
+
+-- a text without a line feed
+unfoldable pub feedless : List ℕ → Bool
+feedless [] = true
+feedless (b ∷ s) = not (eqb b 10) && feedless s
 
 -- one more byte in front of the first of some pieces
 abbrev pub inFront : ℕ → List (List ℕ) → List (List ℕ)

@@ -40,8 +40,9 @@ use Rattle.fill.specs.Placement.{Placement}
 use Rattle.fill.proofs.Promise.{Dissected, safe-keeps, broken-breaks}
 use Rattle.fill.proofs.Placing.{placement}
 use Rattle.forms.specs.declared.Head.{Head}
-use Rattle.forms.specs.Shapes.{rectangles, keepouts}
-use Rattle.forms.specs.Forms.{tileSide, tilesAcross, planOf}
+use Rattle.forms.specs.Shapes.{rectangles}
+use Rattle.forms.specs.Forms.{tileSide, tilesAcross}
+use Rattle.jobfile.specs.Filling.{keepouts, planOf}
 use Rattle.jobfile.specs.Faults.{Standing, roomOf}
 use Rattle.unit.specs.Answering.{quickOf, answerFor, answerOf, quickIn}
 use Rattle.unit.proofs.Metal.{sum-of-kinds, area-of-kinds, eligible-clear}

@@ -22,7 +22,8 @@ use Rattle.fill.specs.declared.Verdict.{Verdict}
 use Rattle.fill.specs.Judge.{verdictOf}
 use Rattle.fill.specs.Sizes.{Planned}
 use Rattle.forms.specs.declared.Head.{Head}
-use Rattle.forms.specs.Forms.{tilesAcross, planOf}
+use Rattle.forms.specs.Forms.{tilesAcross}
+use Rattle.jobfile.specs.Filling.{planOf}
 use Rattle.unit.specs.declared.run.Counts.{Counts}
 use Rattle.unit.specs.declared.run.Answer.{Answer}
 use Rattle.unit.specs.Answering.{quickOf, countsOf, answerFor}

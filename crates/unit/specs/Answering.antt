@@ -22,7 +22,7 @@ use Rattle.spelling.specs.Text.{bytes}
 use Rattle.spelling.specs.Pattern.{spell}
 use Rattle.forms.specs.declared.Head.{Head}
 use Rattle.forms.specs.Shapes.{rectangles}
-use Rattle.forms.specs.Forms.{planOf}
+use Rattle.jobfile.specs.Filling.{planOf}
 use Rattle.jobfile.specs.Faults.{Standing}
 use Rattle.unit.specs.declared.run.Counts.{Counts}
 use Rattle.unit.specs.declared.run.Answer.{Answer}

@@ -46,8 +46,7 @@ pub record Reported (file before : List ℕ) (n : ℕ) (after : List ℕ) : Type
   pub promised : FilePromise file
 
 -- two files that differ in what the head says of gaps, and not in the gap of any kind of shape that they have, are printed alike, where
--- the gaps of both are in their range and neither is too long: D plays no part where no line is a dummy, B none where no line is drawn metal, and
--- (gap B) is (gap B B)
+-- both heads may begin a file: D plays no part where no line is a dummy, B none where no line is drawn metal, and (gap B) is (gap B B)
 abbrev pub PrintedAlike : Type 0
 PrintedAlike = (h : Head) (g g′ : Gap) (rest : List ℕ) → MayBegin unitLimits h g rest → MayBegin unitLimits h g′ rest → SameGaps unitLimits g g′ rest →
     printedFor (fileWith h g′ rest) ≡ printedFor (fileWith h g rest)

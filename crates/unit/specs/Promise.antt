@@ -25,8 +25,9 @@ use Rattle.fill.specs.Placement.{Placement, placedSum, keeps}
 use Rattle.forms.specs.declared.Kind.{Kind}
 use Rattle.forms.specs.declared.Kind.the-variants.{Drawn, Dummy}
 use Rattle.forms.specs.declared.Shape.{Shape}
-use Rattle.forms.specs.Shapes.{rectangles, rectanglesOf, keepoutOf, keepouts}
-use Rattle.forms.specs.Forms.{tileSide, planOf}
+use Rattle.forms.specs.Shapes.{rectangles, rectanglesOf}
+use Rattle.forms.specs.Forms.{tileSide}
+use Rattle.jobfile.specs.Filling.{keepoutOf, keepouts, planOf}
 use Rattle.jobfile.specs.Faults.{Standing}
 use Rattle.unit.specs.declared.run.Answer.{Answer}
 use Rattle.unit.specs.Answering.{quickIn}

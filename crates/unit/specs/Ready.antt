@@ -12,9 +12,10 @@ use Rattle.zoom.specs.Sizes.{mostAccuracy}
 use Rattle.fill.specs.Sizes.{Planned}
 use Rattle.forms.specs.declared.Head.{Head}
 use Rattle.forms.specs.Limits.{unitLimits}
-use Rattle.forms.specs.Forms.{tilesAcross, planOf}
+use Rattle.forms.specs.Forms.{tilesAcross, tileCount}
 use Rattle.jobfile.specs.declared.Job.{Job}
-use Rattle.jobfile.specs.Held.{shapesRoom, amountsRoom, tileCount}
+use Rattle.jobfile.specs.Filling.{planOf}
+use Rattle.jobfile.specs.Held.{shapesRoom, amountsRoom}
 use Rattle.unit.specs.declared.run.Answer.{Answer}
 use Rattle.unit.specs.Answering.{answerFor}
 

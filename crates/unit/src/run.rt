@@ -83,7 +83,7 @@ fn run_ordered(head: Head, rects: &[u64], order: &[usize], amounts: &[u64]) -> A
     let least = zoom::quick_run(Sense::Least, rects, order, asked, min);
     let counts = counts_of(rects, window, exact, greatest, least);
     let density = zoom::density(window, greatest.last.named.area, greatest.last.limit);
-    let verdict = fill::judge(rects, order, amounts, forms::plan_of(head));
+    let verdict = fill::judge(rects, order, amounts, jobfile::plan_of(head));
     Answer {
         exact,
         greatest,

@@ -5,7 +5,7 @@ use lib.Dec.{lit≤}
 use Rattle.spelling.specs.Text.{bytes}
 use Rattle.spelling.specs.Scanning.{places}
 use Rattle.forms.specs.declared.Kind.the-variants.{Drawn}
-use Rattle.forms.specs.Forms.{fillPattern, rectPattern}
+use Rattle.forms.specs.Spellings.{fillPattern, rectPattern}
 use Rattle.forms.specs.Reading.{fillForm, shapeForm, formOf}
 use Rattle.forms.proofs.Reading.{fill-by, shape-by, first-read, second-read, neither-read}
 use Rattle.forms.proofs.lines.form_of.Statement.{statement}

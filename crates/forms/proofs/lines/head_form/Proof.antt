@@ -6,7 +6,7 @@ use lib.Dec.{lit≤}
 use Rattle.spelling.specs.Text.{bytes}
 use Rattle.spelling.specs.Scanning.{places}
 use Rattle.forms.specs.declared.Form.the-variants.{Unknown}
-use Rattle.forms.specs.Forms.{oneGapPattern, twoGapsPattern}
+use Rattle.forms.specs.Spellings.{oneGapPattern, twoGapsPattern}
 use Rattle.forms.specs.Reading.{oneGapForm, twoGapsForm}
 use Rattle.forms.proofs.Reading.{one-gap-by, two-gaps-by, first-read, second-read, neither-read}
 use Rattle.forms.proofs.lines.head_form.Statement.{statement}

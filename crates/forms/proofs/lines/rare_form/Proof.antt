@@ -6,7 +6,7 @@ use lib.Dec.{lit≤}
 use Rattle.spelling.specs.Text.{bytes}
 use Rattle.spelling.specs.Scanning.{places}
 use Rattle.forms.specs.declared.Kind.the-variants.{Dummy}
-use Rattle.forms.specs.Forms.{dummyPattern, endPattern}
+use Rattle.forms.specs.Spellings.{dummyPattern, endPattern}
 use Rattle.forms.specs.Reading.{shapeForm, endForm}
 use Rattle.forms.proofs.Reading.{shape-by, end-by, first-read, second-read, neither-read}
 use Rattle.forms.proofs.lines.rare_form.Statement.{statement}
