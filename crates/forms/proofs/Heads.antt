@@ -1,20 +1,18 @@
 -- What a good head says in plain numbers.
 use Prim.Native.Nat.{ℕ, zero, suc, _*_, _/_, _%_, _≤_, _<_}
-use mathlib.Core.Path.{_≡_, refl, sym, _∙_}
-use mathlib.Core.Bool.{Bool, true, false, _&&_, false≢true}
+use mathlib.Core.Path.{_≡_, sym, _∙_}
+use mathlib.Core.Bool.{true, _&&_}
 use native.Mathlib.Nat.{div-add-mod', mul-comm, mul-le-mul-right, le-trans, le-of-mul-le-mul-right}
 use native.Mathlib.Omega.{arith}
 use lib.Dec.{leb, ltb, eqb}
 use borrow.Author.Tests.{leb-true, ltb-true, eqb-true}
 use Rattle.laws.proofs.Tests.{both}
-use Rattle.forms.specs.declared.Gap.{Gap}
-use Rattle.forms.specs.declared.Gap.the-variants.{Both, Each}
 use Rattle.forms.specs.declared.Head.{Head}
 use Rattle.forms.specs.declared.Kind.{Kind}
-use Rattle.forms.specs.declared.Kind.the-variants.{Drawn, Dummy}
 use Rattle.forms.specs.Limits.{Limits, unitLimits}
 use Rattle.forms.specs.Shapes.{gapFor}
-use Rattle.forms.specs.Forms.{inSpan, gapInRange, headInRange, tileSide, tilesAcross, agrees, GoodHead, hasTile}
+use Rattle.forms.specs.Forms.{tileSide, tilesAcross, agrees, hasTile, GoodHead}
+use Rattle.forms.proofs.Spans.{gap-between, Ranges, ranges}
 
 pub record HeadFacts (h : Head) : Type 0 where
   pub window-least : 1 ≤ h .window
@@ -31,20 +29,6 @@ pub record HeadFacts (h : Head) : Type 0 where
   pub tiles-most : tilesAcross h ≤ unitLimits .tiles
   pub cut-tiles : h .cut ≤ tilesAcross h
 
--- a number in its range
-pub record Between (lo hi n : ℕ) : Type 0 where
-  pub least : lo ≤ n
-  pub most : n ≤ hi
-
-pub between : (lo hi n : ℕ) → inSpan lo hi n ≡ true → Between lo hi n
-between lo hi n e = let k = both (leb lo n) (leb n hi) e in record { least = leb-true lo n (k .0); most = leb-true n hi (k .1) }
-
--- a gap of the head is in its range, whichever kind it is for
-pub gap-between : (m : Limits) (g : Gap) (k : Kind) → gapInRange m g ≡ true → Between 0 (m .side) (gapFor g k)
-gap-between m (Both b) k e = between 0 (m .side) b e
-gap-between m (Each b d) Drawn e = between 0 (m .side) b (both (inSpan 0 (m .side) b) (inSpan 0 (m .side) d) e .0)
-gap-between m (Each b d) Dummy e = between 0 (m .side) d (both (inSpan 0 (m .side) b) (inSpan 0 (m .side) d) e .1)
-
 -- a number that another divides is so many times it
 times : (n m : ℕ) → eqb (n % m) 0 ≡ true → n ≡ n / m * m
 times n m e = sym (div-add-mod' n m) ∙ (let z = eqb-true (n % m) 0 e in omega arith)
@@ -52,64 +36,6 @@ times n m e = sym (div-add-mod' n m) ∙ (let z = eqb-true (n % m) 0 e in omega 
 pub positive : (n m : ℕ) → 1 ≤ n * m → 1 ≤ n
 positive zero m h = absurd (omega arith)
 positive (suc n) m h = omega arith
-
--- both of two tests in four pairs
-four : (a b c d : Bool) → (a && b && c && d) ≡ true → (a ≡ true) × (b ≡ true) × (c ≡ true) × (d ≡ true)
-four true true true d e = (refl, refl, refl, e)
-four true true false d e = absurd (false≢true e)
-four true false c d e = absurd (false≢true e)
-four false b c d e = absurd (false≢true e)
-
--- the ranges of a good head's numbers
-pub record Ranges (m : Limits) (h : Head) : Type 0 where
-  pub size : Between 1 (m .side) (h .size)
-  pub window : Between 1 (m .side) (h .window)
-  pub cut : Between 1 (m .tiles) (h .cut)
-  pub gap : gapInRange m (h .gap) ≡ true
-  pub lower : Between 0 (m .bound) (h .lower)
-  pub upper : Between 0 (m .bound) (h .upper)
-  pub accuracy : Between 0 (m .accuracy) (h .accuracy)
-  pub levels : Between 1 (m .levels) (h .levels)
-
-pub ranges : (m : Limits) (h : Head) → headInRange m h ≡ true → Ranges m h
-ranges m h e =
-    record {
-      size = between 1 (m .side) (h .size) (a .0);
-      window = between 1 (m .side) (h .window) (a .1);
-      cut = between 1 (m .tiles) (h .cut) (b .0);
-      gap = b .1;
-      lower = between 0 (m .bound) (h .lower) (c .0);
-      upper = between 0 (m .bound) (h .upper) (c .1);
-      accuracy = between 0 (m .accuracy) (h .accuracy) (d .0);
-      levels = between 1 (m .levels) (h .levels) (d .1);
-    }
-  where
-    sides : Bool
-    sides = inSpan 1 (m .side) (h .size) && inSpan 1 (m .side) (h .window)
-
-    tiles : Bool
-    tiles = inSpan 1 (m .tiles) (h .cut) && gapInRange m (h .gap)
-
-    bounds : Bool
-    bounds = inSpan 0 (m .bound) (h .lower) && inSpan 0 (m .bound) (h .upper)
-
-    zoom : Bool
-    zoom = inSpan 0 (m .accuracy) (h .accuracy) && inSpan 1 (m .levels) (h .levels)
-
-    k : (sides ≡ true) × (tiles ≡ true) × (bounds ≡ true) × (zoom ≡ true)
-    k = four sides tiles bounds zoom e
-
-    a : (inSpan 1 (m .side) (h .size) ≡ true) × (inSpan 1 (m .side) (h .window) ≡ true)
-    a = both (inSpan 1 (m .side) (h .size)) (inSpan 1 (m .side) (h .window)) (k .0)
-
-    b : (inSpan 1 (m .tiles) (h .cut) ≡ true) × (gapInRange m (h .gap) ≡ true)
-    b = both (inSpan 1 (m .tiles) (h .cut)) (gapInRange m (h .gap)) (k .1)
-
-    c : (inSpan 0 (m .bound) (h .lower) ≡ true) × (inSpan 0 (m .bound) (h .upper) ≡ true)
-    c = both (inSpan 0 (m .bound) (h .lower)) (inSpan 0 (m .bound) (h .upper)) (k .2)
-
-    d : (inSpan 0 (m .accuracy) (h .accuracy) ≡ true) × (inSpan 1 (m .levels) (h .levels) ≡ true)
-    d = both (inSpan 0 (m .accuracy) (h .accuracy)) (inSpan 1 (m .levels) (h .levels)) (k .3)
 
 pub record Agreement (m : Limits) (h : Head) : Type 0 where
   pub fits : h .window ≤ h .size

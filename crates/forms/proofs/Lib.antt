@@ -1,3 +1,4 @@
+pub mod Spans
 pub mod Heads
 pub mod Reading
 pub mod Spelled

@@ -20,6 +20,7 @@ use Rattle.forms.specs.declared.Form.{Form}
 use Rattle.forms.specs.declared.Form.the-variants.{Unknown, Heading, Metal, Fill, End}
 use Rattle.forms.specs.Limits.{unitLimits}
 use Rattle.forms.specs.Forms.{tilesAcross, agrees, tileCount}
+use Rattle.forms.proofs.Spans.{corners}
 use Rattle.forms.proofs.Heads.{head-facts, agreement}
 use Rattle.jobfile.specs.declared.Near.{Near}
 use Rattle.jobfile.specs.declared.Near.the-variants.{NoRow}
@@ -29,7 +30,7 @@ use Rattle.jobfile.specs.Filling.{keepoutOf, keepouts}
 use Rattle.jobfile.specs.Faults.{Standing, beforeHead, noHead, roomOf, lineFault, standsAfter}
 use Rattle.jobfile.specs.Held.{shapesRoom, amountsRoom, shapesBy, shapesIn, tableOf, shapesTable, standing}
 use Rattle.jobfile.specs.Held.{ShapesKept, AmountsKept, Held, Storable, withShape, Stored, TileIn, NearHeld, RegionsHeld, Entered}
-use Rattle.jobfile.proofs.Tables.{corners, zeros, take-zeros, drop-zeros}
+use Rattle.jobfile.proofs.Tables.{zeros, take-zeros, drop-zeros}
 use Rattle.jobfile.proofs.ShapeTables.{table-length, in-table, stored-table}
 use Rattle.jobfile.proofs.Faultless.{check-passes, NoFault, no-fault, no-shape-fault, NoFillFault, no-fill-fault}
 use Rattle.jobfile.proofs.Sound.{heading-turn, after-head, sound-after}

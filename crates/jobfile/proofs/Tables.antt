@@ -1,20 +1,17 @@
 -- Tables of rectangles, four numbers each, and back to the list of rectangles; and tables of zeros.
 use Prim.Native.Nat.{ℕ, zero, suc, _*_, _-_, _≤_}
 use mathlib.Core.Path.{_≡_, refl, ap, _∙_}
-use mathlib.Core.Bool.{true, _&&_}
 use mathlib.Core.List.{List, [], _∷_, _++_}
 use native.Mathlib.Nat.{le-trans}
 use native.Mathlib.Omega.{arith}
 use lib.Dec.{lit≤}
 use lib.ListN.{length, getD, take, drop, replicate}
-use Rattle.laws.proofs.Tests.{both}
 use Rattle.geometry.specs.declared.Rect.{Rect}
 use Rattle.geometry.specs.Layout.{rectsOf, Disjoint, Layer}
 use Rattle.geometry.proofs.Tables.{fourOf}
 use Rattle.forms.specs.declared.Head.{Head}
-use Rattle.forms.specs.Limits.{Limits, unitLimits}
-use Rattle.forms.specs.Forms.{inSpan, rectInRange}
-use Rattle.forms.proofs.Heads.{Between, between}
+use Rattle.forms.specs.Limits.{unitLimits}
+use Rattle.forms.proofs.Spans.{corners}
 use Rattle.jobfile.specs.Held.{GoodRects, tableOf}
 
 -- ---- tables of rectangles
@@ -54,32 +51,7 @@ getD-zeros zero k = refl
 getD-zeros (suc n) zero = refl
 getD-zeros (suc n) (suc k) = getD-zeros n k
 
--- ---- ranges
-
--- the corners of a rectangle in range
-pub record Corners (m : Limits) (r : Rect) : Type 0 where
-  pub left : Between 0 (m .side) (r .x1)
-  pub low : Between 0 (m .side) (r .y1)
-  pub right : Between 0 (m .side) (r .x2)
-  pub high : Between 0 (m .side) (r .y2)
-
-pub corners : (m : Limits) (r : Rect) → rectInRange m r ≡ true → Corners m r
-corners m r e =
-    record {
-      left = between 0 (m .side) (r .x1) (a .0);
-      low = between 0 (m .side) (r .y1) (a .1);
-      right = between 0 (m .side) (r .x2) (b .0);
-      high = between 0 (m .side) (r .y2) (b .1);
-    }
-  where
-    ends : ((inSpan 0 (m .side) (r .x1) && inSpan 0 (m .side) (r .y1)) ≡ true) × ((inSpan 0 (m .side) (r .x2) && inSpan 0 (m .side) (r .y2)) ≡ true)
-    ends = both (inSpan 0 (m .side) (r .x1) && inSpan 0 (m .side) (r .y1)) (inSpan 0 (m .side) (r .x2) && inSpan 0 (m .side) (r .y2)) e
-
-    a : (inSpan 0 (m .side) (r .x1) ≡ true) × (inSpan 0 (m .side) (r .y1) ≡ true)
-    a = both (inSpan 0 (m .side) (r .x1)) (inSpan 0 (m .side) (r .y1)) (ends .0)
-
-    b : (inSpan 0 (m .side) (r .x2) ≡ true) × (inSpan 0 (m .side) (r .y2) ≡ true)
-    b = both (inSpan 0 (m .side) (r .x2)) (inSpan 0 (m .side) (r .y2)) (ends .1)
+-- ---- tables of good rectangles
 
 -- no number of a table of good rectangles is past the greatest side
 pub table-small : (h : Head) (rs : List Rect) → GoodRects h rs → (i : ℕ) → getD (tableOf rs) i 0 ≤ unitLimits .side
