@@ -23,11 +23,15 @@ pub record Between (lo hi n : ℕ) : Type 0 where
 pub between : (lo hi n : ℕ) → inSpan lo hi n ≡ true → Between lo hi n
 between lo hi n e = let k = both (leb lo n) (leb n hi) e in record { least = leb-true lo n (k .0); most = leb-true n hi (k .1) }
 
+-- two numbers, each in its range
+spans : (lo hi n lo′ hi′ m : ℕ) → (inSpan lo hi n && inSpan lo′ hi′ m) ≡ true → Between lo hi n × Between lo′ hi′ m
+spans lo hi n lo′ hi′ m e = let k = both (inSpan lo hi n) (inSpan lo′ hi′ m) e in (between lo hi n (k .0), between lo′ hi′ m (k .1))
+
 -- a gap of the head is in its range, whichever kind it is for
 pub gap-between : (m : Limits) (g : Gap) (k : Kind) → gapInRange m g ≡ true → Between 0 (m .side) (gapFor g k)
 gap-between m (Both b) k e = between 0 (m .side) b e
-gap-between m (Each b d) Drawn e = between 0 (m .side) b (both (inSpan 0 (m .side) b) (inSpan 0 (m .side) d) e .0)
-gap-between m (Each b d) Dummy e = between 0 (m .side) d (both (inSpan 0 (m .side) b) (inSpan 0 (m .side) d) e .1)
+gap-between m (Each b d) Drawn e = spans 0 (m .side) b 0 (m .side) d e .0
+gap-between m (Each b d) Dummy e = spans 0 (m .side) b 0 (m .side) d e .1
 
 -- both of two tests in four pairs
 four : (a b c d : Bool) → (a && b && c && d) ≡ true → (a ≡ true) × (b ≡ true) × (c ≡ true) × (d ≡ true)
@@ -50,42 +54,33 @@ pub record Ranges (m : Limits) (h : Head) : Type 0 where
 pub ranges : (m : Limits) (h : Head) → headInRange m h ≡ true → Ranges m h
 ranges m h e =
     record {
-      size = between 1 (m .side) (h .size) (a .0);
-      window = between 1 (m .side) (h .window) (a .1);
-      cut = between 1 (m .tiles) (h .cut) (b .0);
-      gap = b .1;
-      lower = between 0 (m .bound) (h .lower) (c .0);
-      upper = between 0 (m .bound) (h .upper) (c .1);
-      accuracy = between 0 (m .accuracy) (h .accuracy) (d .0);
-      levels = between 1 (m .levels) (h .levels) (d .1);
+      size = sides .0;
+      window = sides .1;
+      cut = between 1 (m .tiles) (h .cut) (tiles .0);
+      gap = tiles .1;
+      lower = bounds .0;
+      upper = bounds .1;
+      accuracy = zoom .0;
+      levels = zoom .1;
     }
   where
-    sides : Bool
-    sides = inSpan 1 (m .side) (h .size) && inSpan 1 (m .side) (h .window)
+    k : ((inSpan 1 (m .side) (h .size) && inSpan 1 (m .side) (h .window)) ≡ true)
+        × ((inSpan 1 (m .tiles) (h .cut) && gapInRange m (h .gap)) ≡ true)
+        × ((inSpan 0 (m .bound) (h .lower) && inSpan 0 (m .bound) (h .upper)) ≡ true)
+        × ((inSpan 0 (m .accuracy) (h .accuracy) && inSpan 1 (m .levels) (h .levels)) ≡ true)
+    k = four _ _ _ _ e
 
-    tiles : Bool
-    tiles = inSpan 1 (m .tiles) (h .cut) && gapInRange m (h .gap)
+    sides : Between 1 (m .side) (h .size) × Between 1 (m .side) (h .window)
+    sides = spans 1 (m .side) (h .size) 1 (m .side) (h .window) (k .0)
 
-    bounds : Bool
-    bounds = inSpan 0 (m .bound) (h .lower) && inSpan 0 (m .bound) (h .upper)
+    tiles : (inSpan 1 (m .tiles) (h .cut) ≡ true) × (gapInRange m (h .gap) ≡ true)
+    tiles = both (inSpan 1 (m .tiles) (h .cut)) (gapInRange m (h .gap)) (k .1)
 
-    zoom : Bool
-    zoom = inSpan 0 (m .accuracy) (h .accuracy) && inSpan 1 (m .levels) (h .levels)
+    bounds : Between 0 (m .bound) (h .lower) × Between 0 (m .bound) (h .upper)
+    bounds = spans 0 (m .bound) (h .lower) 0 (m .bound) (h .upper) (k .2)
 
-    k : (sides ≡ true) × (tiles ≡ true) × (bounds ≡ true) × (zoom ≡ true)
-    k = four sides tiles bounds zoom e
-
-    a : (inSpan 1 (m .side) (h .size) ≡ true) × (inSpan 1 (m .side) (h .window) ≡ true)
-    a = both (inSpan 1 (m .side) (h .size)) (inSpan 1 (m .side) (h .window)) (k .0)
-
-    b : (inSpan 1 (m .tiles) (h .cut) ≡ true) × (gapInRange m (h .gap) ≡ true)
-    b = both (inSpan 1 (m .tiles) (h .cut)) (gapInRange m (h .gap)) (k .1)
-
-    c : (inSpan 0 (m .bound) (h .lower) ≡ true) × (inSpan 0 (m .bound) (h .upper) ≡ true)
-    c = both (inSpan 0 (m .bound) (h .lower)) (inSpan 0 (m .bound) (h .upper)) (k .2)
-
-    d : (inSpan 0 (m .accuracy) (h .accuracy) ≡ true) × (inSpan 1 (m .levels) (h .levels) ≡ true)
-    d = both (inSpan 0 (m .accuracy) (h .accuracy)) (inSpan 1 (m .levels) (h .levels)) (k .3)
+    zoom : Between 0 (m .accuracy) (h .accuracy) × Between 1 (m .levels) (h .levels)
+    zoom = spans 0 (m .accuracy) (h .accuracy) 1 (m .levels) (h .levels) (k .3)
 
 -- the corners of a rectangle in range
 pub record Corners (m : Limits) (r : Rect) : Type 0 where
@@ -95,19 +90,13 @@ pub record Corners (m : Limits) (r : Rect) : Type 0 where
   pub high : Between 0 (m .side) (r .y2)
 
 pub corners : (m : Limits) (r : Rect) → rectInRange m r ≡ true → Corners m r
-corners m r e =
-    record {
-      left = between 0 (m .side) (r .x1) (a .0);
-      low = between 0 (m .side) (r .y1) (a .1);
-      right = between 0 (m .side) (r .x2) (b .0);
-      high = between 0 (m .side) (r .y2) (b .1);
-    }
+corners m r e = record { left = near .0; low = near .1; right = far .0; high = far .1 }
   where
     ends : ((inSpan 0 (m .side) (r .x1) && inSpan 0 (m .side) (r .y1)) ≡ true) × ((inSpan 0 (m .side) (r .x2) && inSpan 0 (m .side) (r .y2)) ≡ true)
     ends = both (inSpan 0 (m .side) (r .x1) && inSpan 0 (m .side) (r .y1)) (inSpan 0 (m .side) (r .x2) && inSpan 0 (m .side) (r .y2)) e
 
-    a : (inSpan 0 (m .side) (r .x1) ≡ true) × (inSpan 0 (m .side) (r .y1) ≡ true)
-    a = both (inSpan 0 (m .side) (r .x1)) (inSpan 0 (m .side) (r .y1)) (ends .0)
+    near : Between 0 (m .side) (r .x1) × Between 0 (m .side) (r .y1)
+    near = spans 0 (m .side) (r .x1) 0 (m .side) (r .y1) (ends .0)
 
-    b : (inSpan 0 (m .side) (r .x2) ≡ true) × (inSpan 0 (m .side) (r .y2) ≡ true)
-    b = both (inSpan 0 (m .side) (r .x2)) (inSpan 0 (m .side) (r .y2)) (ends .1)
+    far : Between 0 (m .side) (r .x2) × Between 0 (m .side) (r .y2)
+    far = spans 0 (m .side) (r .x2) 0 (m .side) (r .y2) (ends .1)
