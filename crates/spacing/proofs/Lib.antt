@@ -1,0 +1,11 @@
+pub mod Boxes
+pub mod SmallRegions
+pub mod Distances
+pub mod Outside
+pub mod Rounded
+pub mod RegionTables
+pub mod Places
+pub mod NearParts
+pub mod Discs
+pub mod Settling
+pub mod Halves

@@ -1,0 +1,231 @@
+-- Lists of places: a part's, one by one; what the regions at the places of a list hold; and the list that is kept for a box.
+use Prim.Native.Nat.{ℕ, zero, suc, _+_, _-_, _*_, _/_, _≤_, _<_}
+use mathlib.Core.Path.{_≡_, refl, sym, ap, ap₂, _∙_, subst}
+use mathlib.Core.Bool.{Bool, true, false, not, _||_}
+use mathlib.Core.List.{List, [], _∷_, _++_, append-nil}
+use native.Mathlib.Numerals.{add-one}
+use native.Mathlib.Omega.{arith}
+use lib.ListN.{length, take, drop, getD, set, length-set, drop-of-length-le}
+use lib.Seq.{take-suc-set, length-take-le, drop-cons, append-snoc}
+use Rattle.geometry.specs.declared.Rect.{Rect}
+use Rattle.geometry.specs.Count.{one-if}
+use Rattle.geometry.proofs.Counting.{box-cong}
+use Rattle.spacing.specs.declared.Region.{Region}
+use Rattle.spacing.specs.declared.Part.{Part}
+use Rattle.spacing.specs.Free.{regionNumbers, regionAt, holdsSquare, placesFrom, placesOf, placesIn, heldBy, freeBy, freeIn, AgreeOn, Serves}
+use Rattle.spacing.specs.Counting.{isNear, coversBox, Listed, Lists, Countable, Divisible, Enough}
+use Rattle.spacing.specs.Sizes.{FullBox, SmallTable, liveRoom}
+use Rattle.spacing.proofs.Distances.{none-held, all-held, some-held}
+
+-- ---- the places of a part
+
+module _ (i e : ℕ) where
+  pub places-next : i + regionNumbers ≤ e → placesOf (record { from = i; to = e }) ≡ i ∷ placesOf (record { from = i + regionNumbers; to = e })
+  unfolding placesFrom
+  places-next h = ap (placesFrom i) one-more
+    where
+      one-more : (e - i) / regionNumbers ≡ suc ((e - (i + regionNumbers)) / regionNumbers)
+      one-more = omega arith
+
+  pub places-end : e < i + regionNumbers → placesOf (record { from = i; to = e }) ≡ []
+  unfolding placesFrom
+  places-end h = ap (placesFrom i) none
+    where
+      none : (e - i) / regionNumbers ≡ 0
+      none = omega arith
+
+-- all are places of regions, where the part lies in the table
+pub places-listed : (t : List ℕ) (at n : ℕ) → at + regionNumbers * n ≤ length t → Listed t (placesFrom at n)
+unfolding placesFrom
+places-listed t at zero h i k = absurd (omega arith)
+places-listed t at (suc n) h zero k = omega arith
+places-listed t at (suc n) h (suc i) k = places-listed t (at + regionNumbers) n (omega arith) i (omega arith)
+
+pub places-count : (at n : ℕ) → length (placesFrom at n) ≡ n
+unfolding placesFrom
+places-count at zero = refl
+places-count at (suc n) = ap suc (places-count (at + regionNumbers) n)
+
+-- ---- what the regions of a list hold
+
+pub or-assoc : (a b c : Bool) → (a || (b || c)) ≡ ((a || b) || c)
+or-assoc true b c = refl
+or-assoc false b c = refl
+
+pub or-false : (a : Bool) → (a || false) ≡ a
+or-false true = refl
+or-false false = refl
+
+pub or-true : (a : Bool) → (a || true) ≡ true
+or-true true = refl
+or-true false = refl
+
+pub held-append : (t ps qs : List ℕ) (x y : ℕ) → heldBy t (ps ++ qs) x y ≡ (heldBy t ps x y || heldBy t qs x y)
+unfolding heldBy
+held-append t [] qs x y = refl
+held-append t (p ∷ ps) qs x y =
+    ap (λ (h : Bool). holdsSquare (regionAt t p) x y || h) (held-append t ps qs x y)
+    ∙ or-assoc (holdsSquare (regionAt t p) x y) (heldBy t ps x y) (heldBy t qs x y)
+
+pub held-one : (t : List ℕ) (p x y : ℕ) → heldBy t (p ∷ []) x y ≡ holdsSquare (regionAt t p) x y
+unfolding heldBy
+held-one t p x y = or-false (holdsSquare (regionAt t p) x y)
+
+pub held-next : (t : List ℕ) (p : ℕ) (ps : List ℕ) (x y : ℕ) → heldBy t (p ∷ ps) x y ≡ (holdsSquare (regionAt t p) x y || heldBy t ps x y)
+unfolding heldBy
+held-next t p ps x y = refl
+
+pub held-none : (t : List ℕ) (x y : ℕ) → heldBy t [] x y ≡ false
+unfolding heldBy
+held-none t x y = refl
+
+-- where they hold the same squares of a box, the same are free
+pub agree-free : (t ps qs : List ℕ) (b : Rect) → AgreeOn b (heldBy t ps) (heldBy t qs) → freeBy t ps b ≡ freeBy t qs b
+agree-free t ps qs b s =
+    box-cong b (λ x y. one-if (not (heldBy t ps x y))) (λ x y. one-if (not (heldBy t qs x y)))
+    (λ x y n. ap (λ (u : Bool). one-if (not u)) (s x y (n .left) (n .right) (n .low) (n .high)))
+
+-- ---- the list of a part's places
+
+-- of the places from `at` on none is listed yet
+pub record ListedSoFar (p : Part) (out : List ℕ) (n at : ℕ) : Type 0 where
+  pub place : at ≡ p .from + regionNumbers * n
+  pub within : at ≤ p .to
+  pub room : length out ≡ liveRoom
+  pub listed : take n out ++ placesOf (record { from = at; to = p .to }) ≡ placesOf p
+
+pub listing-starts : (p : Part) (out : List ℕ) → p .from ≤ p .to → length out ≡ liveRoom → ListedSoFar p out 0 (p .from)
+listing-starts p out o h = record { place = omega arith; within = o; room = h; listed = refl }
+
+module _ (p : Part) (out : List ℕ) (n at : ℕ) (z : ListedSoFar p out n at) (few : p .to ≤ regionNumbers * liveRoom) where
+  pub place-fits : at + regionNumbers ≤ p .to → n < length out
+  place-fits h = omega (arith, z .place, z .room)
+
+  pub listing-one : (v : ℕ) → v ≡ at → at + regionNumbers ≤ p .to → ListedSoFar p (set out n v) (n + 1) (at + regionNumbers)
+  listing-one v e h =
+      record {
+        place = omega (arith, z .place);
+        within = h;
+        room = length-set out n v ∙ z .room;
+        listed =
+            ap (λ (l : List ℕ). l ++ placesOf (record { from = at + regionNumbers; to = p .to }))
+            (ap (λ (k : ℕ). take k (set out n v)) (add-one n) ∙ take-suc-set out n v (place-fits h) ∙ ap (λ (k : ℕ). take n out ++ (k ∷ [])) e)
+            ∙ append-snoc (take n out) at (placesOf (record { from = at + regionNumbers; to = p .to }))
+            ∙ ap (λ (l : List ℕ). take n out ++ l) (sym (places-next at (p .to) h))
+            ∙ z .listed;
+      }
+
+  pub listing-ends : p .to < at + regionNumbers → Lists p out n
+  listing-ends h =
+      record {
+        within = omega (arith, z .place, z .within, z .room);
+        places = sym (append-nil (take n out)) ∙ ap (λ (l : List ℕ). take n out ++ l) (sym (places-end at (p .to) h)) ∙ z .listed;
+      }
+
+pub lists-length : (p : Part) (out : List ℕ) (n : ℕ) → Lists p out n → n ≡ length (take n out)
+lists-length p out n l = sym (length-take-le n out (l .within))
+
+-- they are counted by, where the part is enough for a box
+module _ (t : List ℕ) (b : Rect) (p : Part) (out : List ℕ) (n : ℕ) (small : SmallTable t) (s : Serves t b p) (l : Lists p out n) where
+  pub lists-countable : FullBox b → Countable t (take n out) b
+  lists-countable box =
+      record {
+        small = small;
+        listed = subst (Listed t) (sym (l .places)) (places-listed t (p .from) ((p .to - p .from) / regionNumbers) (omega (arith, s .order, s .within)));
+        few = omega (arith, ap length (l .places), places-count (p .from) ((p .to - p .from) / regionNumbers), s .within, small .few);
+        box = box;
+      }
+
+  pub lists-free : (f : ℕ) → f ≡ freeBy t (take n out) b → f ≡ freeIn t b
+  lists-free f e = e ∙ ap (λ (ps : List ℕ). freeBy t ps b) (l .places) ∙ agree-free t (placesOf p) (placesIn t) b (s .same)
+
+-- ---- the places that are kept for a box
+
+listed-more : (t ps : List ℕ) (p : ℕ) → Listed t ps → p + 4 < length t → Listed t (ps ++ (p ∷ []))
+listed-more t [] p l h zero k = h
+listed-more t [] p l h (suc i) k = absurd (omega arith)
+listed-more t (a ∷ ps) p l h zero k = l zero (omega arith)
+listed-more t (a ∷ ps) p l h (suc i) k = listed-more t ps p (λ j q. l (suc j) (omega arith)) h i (omega arith)
+
+-- of the places from i on none is looked at yet
+pub record KeptSoFar (t ps own : List ℕ) (b : Rect) (n i : ℕ) : Type 0 where
+  pub within : i ≤ length ps
+  pub few : n ≤ i
+  pub room : length own ≡ liveRoom
+  pub listed : Listed t (take n own)
+  pub same : AgreeOn b (λ x y. heldBy t (take n own) x y || heldBy t (drop i ps) x y) (heldBy t ps)
+  pub divisible : 0 < n → Divisible b
+
+pub keeping-starts : (t ps own : List ℕ) (b : Rect) → length own ≡ liveRoom → KeptSoFar t ps own b 0 0
+keeping-starts t ps own b h =
+    record {
+      within = omega arith;
+      few = omega arith;
+      room = h;
+      listed = λ i k. absurd (omega arith);
+      same = λ x y p q r s. ap (λ (u : Bool). u || heldBy t ps x y) (held-none t x y);
+      divisible = λ k. absurd (omega arith);
+    }
+
+module _ (t ps own : List ℕ) (b : Rect) (n i : ℕ) (z : KeptSoFar t ps own b n i) where
+  pub keeping-ends : length ps ≤ i → Enough t ps own b n
+  keeping-ends h =
+      record {
+        room = z .room;
+        within = omega (arith, z .within, z .few);
+        listed = z .listed;
+        same = λ x y p q r s.
+            sym (ap (λ (l : List ℕ). heldBy t (take n own) x y || heldBy t l x y) (drop-of-length-le ps h)
+            ∙ ap (λ (u : Bool). heldBy t (take n own) x y || u) (held-none t x y)
+            ∙ or-false (heldBy t (take n own) x y))
+            ∙ z .same x y p q r s;
+        divisible = z .divisible;
+      }
+
+  module _ (h : i < length ps) (g : Region) (d : g ≡ regionAt t (getD ps i 0)) where
+    -- what is left, at its first place
+    at-next : (x y : ℕ) → heldBy t (drop i ps) x y ≡ (holdsSquare (regionAt t (getD ps i 0)) x y || heldBy t (drop (suc i) ps) x y)
+    at-next x y = ap (λ (l : List ℕ). heldBy t l x y) (drop-cons ps i 0 h) ∙ held-next t (getD ps i 0) (drop (suc i) ps) x y
+
+    pub keeping-far : (v : Bool) → v ≡ isNear g b → v ≡ false → KeptSoFar t ps own b n (i + 1)
+    keeping-far v e f =
+        record {
+          within = omega arith;
+          few = omega (arith, z .few);
+          room = z .room;
+          listed = z .listed;
+          same = λ x y p q r s.
+              ap (λ (k : ℕ). heldBy t (take n own) x y || heldBy t (drop k ps) x y) (add-one i)
+              ∙ ap (λ (u : Bool). heldBy t (take n own) x y || u)
+              (sym (at-next x y ∙ ap (λ (u : Bool). u || heldBy t (drop (suc i) ps) x y) (none-held (regionAt t (getD ps i 0)) b (sym (e ∙ ap (λ (m : Region). isNear m b) d) ∙ f) x y p q r s)))
+              ∙ z .same x y p q r s;
+          divisible = z .divisible;
+        }
+
+    pub keeping-covered : (v : Bool) → v ≡ coversBox g b → v ≡ true → AgreeOn b (heldBy t ps) (λ x y. true)
+    keeping-covered v e f x y p q r s =
+        sym (z .same x y p q r s)
+        ∙ ap (λ (u : Bool). heldBy t (take n own) x y || u)
+        (at-next x y ∙ ap (λ (u : Bool). u || heldBy t (drop (suc i) ps) x y) (all-held (regionAt t (getD ps i 0)) b (sym (e ∙ ap (λ (m : Region). coversBox m b) d) ∙ f) x y p q r s))
+        ∙ or-true (heldBy t (take n own) x y)
+
+    pub keeping-one : (v w : Bool) → Countable t ps b → v ≡ isNear g b → v ≡ true → w ≡ coversBox g b → w ≡ false →
+        KeptSoFar t ps (set own n (getD ps i 0)) b (n + 1) (i + 1)
+    keeping-one v w q e f e′ f′ =
+        record {
+          within = omega arith;
+          few = omega (arith, z .few);
+          room = length-set own n (getD ps i 0) ∙ z .room;
+          listed = subst (Listed t) (sym kept) (listed-more t (take n own) (getD ps i 0) (z .listed) (q .listed i h));
+          same = λ x y p q′ r s.
+              ap₂ (λ (l : List ℕ) (m : ℕ). heldBy t l x y || heldBy t (drop m ps) x y) kept (add-one i)
+              ∙ ap (λ (u : Bool). u || heldBy t (drop (suc i) ps) x y)
+              (held-append t (take n own) (getD ps i 0 ∷ []) x y ∙ ap (λ (u : Bool). heldBy t (take n own) x y || u) (held-one t (getD ps i 0) x y))
+              ∙ sym (or-assoc (heldBy t (take n own) x y) (holdsSquare (regionAt t (getD ps i 0)) x y) (heldBy t (drop (suc i) ps) x y))
+              ∙ ap (λ (u : Bool). heldBy t (take n own) x y || u) (sym (at-next x y))
+              ∙ z .same x y p q′ r s;
+          divisible = λ k. some-held g b (q .box .across) (q .box .up) (sym e ∙ f) (sym e′ ∙ f′);
+        }
+      where
+        kept : take (n + 1) (set own n (getD ps i 0)) ≡ take n own ++ (getD ps i 0 ∷ [])
+        kept = ap (λ (m : ℕ). take m (set own n (getD ps i 0))) (add-one n) ∙ take-suc-set own n (getD ps i 0) (omega (arith, z .few, z .room, q .few))
