@@ -7,7 +7,7 @@ use Rattle.geometry.specs.Layout.{covered}
 use Rattle.geometry.specs.Extreme.{bestInRow, bestInRows}
 use Rattle.extremes.specs.Exact.{extreme}
 use Rattle.zoom.specs.Run.{levelOf, levelAt, runFrom, quickRun}
-use Rattle.fill.specs.Eligible.{clearOfAll}
+use Rattle.spacing.specs.Eligible.{clearOfAll}
 use Rattle.fill.specs.Judge.{failingInRow, failingInRows, standardFailing, marginFailing}
 use Rattle.spelling.specs.Text.{bytes, pieces}
 use Rattle.spelling.specs.Decimal.{decimal, decimalIn, digitsOf, pastDigits, valueFrom, sameBytes}

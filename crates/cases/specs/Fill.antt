@@ -3,8 +3,8 @@ use Prim.Native.Nat.{ℕ}
 use mathlib.Core.List.{List, [], _∷_, _++_, map}
 use Rattle.cases.specs.Row.{Row, row}
 use Rattle.cases.specs.JobA.{shapesA}
-use Rattle.fill.specs.declared.Keepout.{Keepout}
-use Rattle.fill.specs.Eligible.{fillableArea, tile}
+use Rattle.spacing.specs.declared.Keepout.{Keepout}
+use Rattle.spacing.specs.Eligible.{fillableArea, tile}
 use Rattle.fill.specs.Judge.{verdictOf, verdictNumbers}
 
 -- job A has four tiles a side, and two units of fill in tile (0, 0)

@@ -1,7 +1,3 @@
-pub mod Grown
-pub mod RegionTables
-pub mod Cutting
-pub mod Near
 pub mod Tiles
 pub mod Starts
 pub mod Promise

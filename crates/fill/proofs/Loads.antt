@@ -19,21 +19,21 @@ use Rattle.geometry.proofs.Overlaps.{area-small}
 use Rattle.sweep.specs.declared.Frame.{Frame}
 use Rattle.sweep.specs.Strips.{stripSum, StripOf}
 use Rattle.sweep.specs.Cursors.{frameAt, ColumnsInOrder}
-use Rattle.fill.specs.declared.Keepout.{Keepout}
+use Rattle.spacing.specs.declared.Keepout.{Keepout}
 use Rattle.fill.specs.declared.Plan.{Plan}
 use Rattle.fill.specs.declared.Bound.{Bound}
 use Rattle.fill.specs.declared.Failing.{Failing}
 use Rattle.fill.specs.declared.Failing.the-variants.{Nowhere, At}
 use Rattle.fill.specs.declared.Verdict.{Verdict}
 use Rattle.fill.specs.declared.Verdict.the-variants.{Broken}
-use Rattle.fill.specs.Eligible.{tile, fillableArea}
+use Rattle.spacing.specs.Eligible.{tile, fillableArea}
 use Rattle.fill.specs.Judge.{TileBox, numberAt, load, standardTiles, bloatedTiles, shrunkTiles, failingAt, startsAcross, standardFailing, marginFailing, judged}
 use Rattle.fill.specs.Windows.{ruleOf, loadOf, loadAlong, tilesForUpper, tilesForLower, failingBy, searchBy, tilesBefore, Loads, TilesInLayout, IsStart, Filled}
 use Rattle.fill.specs.Sizes.{mostAcross, tilesRoom, topBound, Tiled, RowTiled}
-use Rattle.fill.proofs.Grown.{fillable-small}
+use Rattle.spacing.proofs.Outside.{fillable-small}
 use Rattle.fill.proofs.Starts.{rows-cong}
 use Rattle.fill.proofs.Windows.{upper-inside, lower-inside}
-use Rattle.fill.proofs.Cutting.{same-box}
+use Rattle.spacing.proofs.Boxes.{same-box}
 
 -- tile (i, j) has a place in a table with a number for each tile
 pub place-within : (across i j m : ℕ) → i < across → j < across → across * across ≤ m → j * across + i < m

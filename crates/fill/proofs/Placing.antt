@@ -12,9 +12,9 @@ use borrow.Author.Tests.{lt-ltb, le-ltb}
 use Rattle.laws.proofs.Tests.{le-or-lt, T-both}
 use Rattle.geometry.specs.Count.{sum, boxSum, one-if}
 use Rattle.geometry.proofs.Counting.{sum-cong}
-use Rattle.fill.specs.declared.Keepout.{Keepout}
+use Rattle.spacing.specs.declared.Keepout.{Keepout}
 use Rattle.fill.specs.declared.Plan.{Plan}
-use Rattle.fill.specs.Eligible.{eligible, tile, fillableArea}
+use Rattle.spacing.specs.Eligible.{eligible, tile, fillableArea}
 use Rattle.fill.specs.Judge.{numberAt}
 use Rattle.fill.specs.Placement.{Placement, chosenArea}
 

@@ -13,14 +13,14 @@ use Rattle.geometry.specs.declared.Rect.{Rect}
 use Rattle.geometry.specs.Count.{boxSum, one-if}
 use Rattle.geometry.specs.Layout.{covered, coveredArea, windowBox}
 use Rattle.geometry.proofs.Counting.{box-cong, box-plus, box-within}
-use Rattle.fill.specs.declared.Keepout.{Keepout}
+use Rattle.spacing.specs.declared.Keepout.{Keepout}
 use Rattle.fill.specs.declared.Plan.{Plan}
 use Rattle.fill.specs.declared.Bound.{Bound}
 use Rattle.fill.specs.declared.Bound.the-variants.{Over, Under}
 use Rattle.fill.specs.declared.Failing.{Failing}
 use Rattle.fill.specs.declared.Failing.the-variants.{Nowhere, At}
 use Rattle.fill.specs.declared.Verdict.the-variants.{Safe, Broken}
-use Rattle.fill.specs.Eligible.{tile}
+use Rattle.spacing.specs.Eligible.{tile}
 use Rattle.fill.specs.Judge.{load, standardTiles, bloatedTiles, shrunkTiles, keepsUpper, keepsLower, failingAt, startsAcross, standardFailing, marginFailing, judged, verdictOf}
 use Rattle.fill.specs.Placement.{Placement, chosenArea, placedSum, keeps}
 use Rattle.fill.proofs.Tiles.{box-tiles}

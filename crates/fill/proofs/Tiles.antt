@@ -5,7 +5,7 @@ use native.Mathlib.Nat.{zero-mul, suc-mul, add-mul, mul-comm, mul-sub}
 use native.Mathlib.Omega.{arith}
 use Rattle.geometry.specs.Count.{sum, span, boxSum}
 use Rattle.geometry.proofs.Counting.{sum-cong, sum-split, span-cong, span-swap}
-use Rattle.fill.specs.Eligible.{tile}
+use Rattle.spacing.specs.Eligible.{tile}
 
 -- k blocks of d numbers from block a on
 sum-blocks : (k a d : ℕ) (f : ℕ → ℕ) → sum (k * d) (λ i. f (a * d + i)) ≡ sum k (λ i. span ((a + i) * d) (suc (a + i) * d) f)

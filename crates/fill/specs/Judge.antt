@@ -15,7 +15,7 @@ use Rattle.fill.specs.declared.Failing.{Failing}
 use Rattle.fill.specs.declared.Failing.the-variants.{Nowhere, At}
 use Rattle.fill.specs.declared.Verdict.{Verdict}
 use Rattle.fill.specs.declared.Verdict.the-variants.{Safe, Broken, Undecided}
-use Rattle.fill.specs.Eligible.{tile}
+use Rattle.spacing.specs.Eligible.{tile}
 
 -- a box that counts in tiles: the tiles from column x1 to before x2 and from row y1 to before y2
 abbrev pub TileBox : Type 0

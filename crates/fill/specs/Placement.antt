@@ -7,8 +7,8 @@ use lib.Dec.{T}
 use Rattle.geometry.specs.declared.Rect.{Rect}
 use Rattle.geometry.specs.Count.{one-if, boxSum}
 use Rattle.geometry.specs.Layout.{coveredArea, windowBox}
-use Rattle.fill.specs.Eligible.{eligible, tile}
-use Rattle.fill.specs.declared.Keepout.{Keepout}
+use Rattle.spacing.specs.Eligible.{eligible, tile}
+use Rattle.spacing.specs.declared.Keepout.{Keepout}
 use Rattle.fill.specs.declared.Plan.{Plan}
 use Rattle.fill.specs.declared.Bound.{Bound}
 use Rattle.fill.specs.declared.Bound.the-variants.{Over, Under}

@@ -4,13 +4,10 @@ use Prim.Native.Nat.{ℕ, suc, _+_, _*_, _≤_, _<_}
 use mathlib.Core.Path.{_≡_}
 use mathlib.Core.List.{List}
 use lib.ListN.{length, getD}
-use Rattle.geometry.specs.declared.Rect.{Rect}
 use Rattle.geometry.specs.Sizes.{widest, largest}
 use Rattle.geometry.specs.Layout.{Layer}
 use Rattle.sweep.specs.Strips.{stripSum}
-use Rattle.fill.specs.declared.Keepout.{Keepout}
 use Rattle.fill.specs.declared.Plan.{Plan}
-use Rattle.fill.specs.Free.{Within}
 
 -- tiles across a layout, and the numbers of a table with one for each
 abbrev pub mostAcross : ℕ
@@ -26,30 +23,6 @@ heaviest = 1125899906842624
 -- L and U, in ten-thousandths
 abbrev pub topBound : ℕ
 topBound = 10000
-
--- a shape whose region is formed
-pub record SmallKeepout (k : Keepout) : Type 0 where
-  pub right : k .rect .x2 ≤ widest
-  pub high : k .rect .y2 ≤ widest
-  pub narrow : k .gap ≤ widest
-
--- no far corner of the box past 2^20; the regions of the table may overlap and lie anywhere
-pub record SmallBox (b : Rect) : Type 0 where
-  pub right : b .x2 ≤ widest
-  pub high : b .y2 ≤ widest
-
--- a box whose size is formed
-pub record Upright (b : Rect) : Type 0 where
-  pub across : b .x1 ≤ b .x2
-  pub up : b .y1 ≤ b .y2
-  pub right : b .x2 ≤ widest
-  pub high : b .y2 ≤ widest
-
--- the squares around the box m, which lies in b, are counted by the regions from a place on
-pub record Around (table : List ℕ) (at : ℕ) (b m : Rect) : Type 0 where
-  pub place : at ≤ length table
-  pub small : SmallBox b
-  pub within : Within m b
 
 -- a layout whose loads are formed: its rectangles, and an amount for each of its tiles, at most `mostAcross` across
 pub record Tiled (rects amounts : List ℕ) (plan : Plan) : Type 0 where

@@ -12,8 +12,8 @@ use lib.ListN.{length, take, drop, set, length-append, length-set}
 use lib.Seq.{take-set-lt, drop-set-lt}
 use Rattle.geometry.specs.Layout.{rectsOf}
 use Rattle.fill.specs.Judge.{tileIndex}
-use Rattle.fill.specs.Free.{regionNumbers, withRegion}
-use Rattle.fill.proofs.RegionTables.{regions-none, regions-more, regions-length}
+use Rattle.spacing.specs.Free.{regionNumbers, withRegion}
+use Rattle.spacing.proofs.RegionTables.{regions-none, regions-more, regions-length}
 use Rattle.forms.specs.declared.Head.{Head}
 use Rattle.forms.specs.declared.Shape.{Shape}
 use Rattle.forms.specs.declared.Form.{Form}
@@ -132,6 +132,8 @@ module _ (s : State) (shapes regions amounts : List ℕ) (k : Held s shapes regi
           regions-room = k .shaped .room;
           more = omega (arith, fewer, k .shaped .counted);
           small = record {
+            left = le-trans (corners unitLimits (m .rect) (g .range) .left .most) (lit≤ tt);
+            low = le-trans (corners unitLimits (m .rect) (g .range) .low .most) (lit≤ tt);
             right = le-trans (corners unitLimits (m .rect) (g .range) .right .most) (lit≤ tt);
             high = le-trans (corners unitLimits (m .rect) (g .range) .high .most) (lit≤ tt);
             narrow = le-trans (head-facts (s .head) (k .sound .headed headed) .gap-most (m .kind)) (lit≤ tt);
@@ -157,7 +159,7 @@ module _ (s : State) (shapes regions amounts : List ℕ) (k : Held s shapes regi
           counted = ap length more-shapes ∙ sym more-count;
           few = omega (arith, storable .more);
           room = regions-length regions (s .count) (keepoutOf (s .head .gap) m) space ∙ k .shaped .room;
-          kept = rw (more-shapes, map-append (keepoutOf (s .head .gap)) before (m ∷ []), add-one (s .count)) (regions-more regions (s .count) (keepouts (s .head .gap) before) (keepoutOf (s .head .gap) m) space (k .shaped .kept));
+          kept = rw (more-shapes, map-append (keepoutOf (s .head .gap)) before (m ∷ []), add-one (s .count)) (regions-more regions (s .count) (keepoutOf (s .head .gap) m) space (keepouts (s .head .gap) before) (storable .small) (omega (arith, storable .more)) (k .shaped .kept));
         })
         (k .filled) tt
 

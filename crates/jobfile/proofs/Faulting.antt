@@ -3,7 +3,7 @@ use Prim.Native.Nat.{ℕ, suc, _*_, _≤_, _<_}
 use mathlib.Core.Path.{_≡_, sym, ap, ap₂, _∙_}
 use mathlib.Core.Bool.{Bool, true, false}
 use mathlib.Core.List.{List, []}
-use native.Mathlib.Nat.{le-trans, lt-of-lt-of-le}
+use native.Mathlib.Nat.{le-trans, lt-of-lt-of-le, suc-mul}
 use native.Mathlib.Omega.{arith}
 use lib.Arith.{digits-lt}
 use lib.Dec.{leb, ltb, eqb, lit≤}
@@ -14,11 +14,11 @@ use Rattle.geometry.specs.declared.Rect.{Rect}
 use Rattle.geometry.specs.Sizes.{widest}
 use Rattle.geometry.specs.Layout.{rectsOf, sharesSquare}
 use Rattle.geometry.proofs.Tables.{rects-length}
-use Rattle.fill.specs.Eligible.{tile}
-use Rattle.fill.specs.Free.{regionNumbers}
+use Rattle.spacing.specs.Eligible.{tile}
+use Rattle.spacing.specs.Free.{regionNumbers}
 use Rattle.fill.specs.Judge.{tileIndex, numberAt}
-use Rattle.fill.specs.Sizes.{SmallBox}
-use Rattle.fill.proofs.RegionTables.{regions-fillable}
+use Rattle.spacing.specs.Sizes.{SmallBox}
+use Rattle.spacing.proofs.RegionTables.{regions-fillable}
 use Rattle.forms.specs.declared.Head.{Head}
 use Rattle.forms.specs.declared.Form.{Form}
 use Rattle.forms.specs.declared.Form.the-variants.{Unknown, Heading, Metal, Fill, End}
@@ -151,6 +151,8 @@ pub tile-small : (h : Head) (i j : ℕ) (b : Rect) → GoodHead h → TileIn h i
 tile-small h i j b g k e =
     rw e
     (record {
+      across = omega (arith, suc-mul i (tileSide h));
+      up = omega (arith, suc-mul j (tileSide h));
       right = le-trans (tile-end h i (head-facts h g) (k .column)) (lit≤ tt);
       high = le-trans (tile-end h j (head-facts h g) (k .row)) (lit≤ tt);
     })
@@ -175,7 +177,7 @@ shapes-held s shapes regions amounts k =
 
 pub regions-held : (s : State) (shapes regions amounts : List ℕ) → Held s shapes regions amounts → (s .turn ≡ Before → ⊥) → RegionsHeld s regions
 regions-held s shapes regions amounts k n =
-    record { within = omega (arith, k .shaped .few, k .shaped .room); head = k .sound .headed n; near = k .near }
+    record { within = omega (arith, k .shaped .few, k .shaped .room); head = k .sound .headed n; small = k .shaped .kept .small; near = k .near }
 
 -- ---- each form by itself
 

@@ -13,6 +13,7 @@ use Rattle.geometry.specs.Layout.{rectsOf}
 use Rattle.spelling.specs.Text.{inFront, pieces}
 use Rattle.spelling.specs.Scanning.{lineLength}
 use Rattle.spelling.proofs.Lines.{pieces-line, pieces-last}
+use Rattle.spacing.proofs.RegionTables.{regions-none}
 use Rattle.forms.specs.declared.Head.{Head}
 use Rattle.forms.specs.declared.Form.{Form}
 use Rattle.forms.specs.Limits.{Limits, unitLimits}
@@ -157,7 +158,7 @@ read-so-far-start file shapes regions amounts h c eh =
     rw (c .no-shapes, c .no-regions, c .no-amounts, eh)
     (record {
       held = record {
-        shaped = record { table = refl; counted = refl; few = lit≤ tt; room = refl; kept = refl };
+        shaped = record { table = refl; counted = refl; few = lit≤ tt; room = refl; kept = regions-none };
         filled = record { room = refl; tiles = lit≤ tt; beyond = refl };
         sound = sound-start;
         near = tt;

@@ -9,10 +9,11 @@ use lib.Dec.{eqb}
 use lib.ListN.{length, take}
 use borrow.Author.Tests.{eq-eqb, ne-eqb, eqb-true}
 use Rattle.geometry.specs.declared.Rect.{Rect}
-use Rattle.fill.specs.declared.Part.{Part}
-use Rattle.fill.specs.Eligible.{tile}
-use Rattle.fill.specs.Free.{regionNumbers, Serves}
-use Rattle.fill.proofs.Near.{all-serves, serves-inside}
+use Rattle.spacing.specs.declared.Part.{Part}
+use Rattle.spacing.specs.Eligible.{tile}
+use Rattle.spacing.specs.Free.{regionNumbers, Serves}
+use Rattle.spacing.specs.Sizes.{SmallBox}
+use Rattle.spacing.proofs.NearParts.{all-serves, serves-inside}
 use Rattle.forms.specs.declared.Head.{Head}
 use Rattle.forms.specs.Limits.{unitLimits}
 use Rattle.forms.specs.Forms.{tileSide, tilesAcross, GoodHead}
@@ -64,6 +65,16 @@ tile-served h t near i j all b p g k n e f q =
 module _ (s : State) (regions : List ℕ) (row d : ℕ) (k : RegionsHeld s regions) (inside : row < tilesAcross (s .head)) (e : d ≡ tileSide (s .head)) where
   pub row-end : row * d + d ≤ unitLimits .side
   row-end = rw e (omega (arith, tile-end (s .head) row (head-facts (s .head) (k .head)) inside))
+
+  -- what the search for it asks of the row's box
+  pub row-small : SmallBox (record { x1 = 0; y1 = row * d; x2 = s .head .size; y2 = row * d + d })
+  row-small =
+      record {
+        across = omega arith;
+        up = omega arith;
+        right = omega (arith, head-facts (s .head) (k .head) .size-most);
+        high = omega (arith, row-end);
+      }
 
   pub row-served : (p : Part) → Serves (take (regionNumbers * s .count) regions) (record { x1 = 0; y1 = row * d; x2 = s .head .size; y2 = row * d + d }) p →
       NearHeld (s .head) (take (regionNumbers * s .count) regions) (Row row p)

@@ -10,8 +10,8 @@ use lib.ListN.{length}
 use borrow.Author.Tests.{eqb-true}
 use Rattle.spelling.specs.Text.{pieces}
 use Rattle.spelling.specs.Decimal.{EachShort}
-use Rattle.fill.specs.declared.Keepout.{Keepout}
-use Rattle.fill.specs.Eligible.{tile, fillableArea}
+use Rattle.spacing.specs.declared.Keepout.{Keepout}
+use Rattle.spacing.specs.Eligible.{tile, fillableArea}
 use Rattle.forms.specs.declared.Form.{Form}
 use Rattle.forms.specs.declared.Form.the-variants.{Unknown, Heading, Metal, Fill, End}
 use Rattle.forms.specs.declared.Gap.{Gap}

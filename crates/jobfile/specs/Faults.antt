@@ -6,7 +6,7 @@ use lib.Dec.{leb, ltb, eqb}
 use lib.ListN.{length, set, replicate}
 use Rattle.geometry.specs.declared.Rect.{Rect}
 use Rattle.geometry.specs.Layout.{sharesSquare}
-use Rattle.fill.specs.Eligible.{tile, fillableArea}
+use Rattle.spacing.specs.Eligible.{tile, fillableArea}
 use Rattle.fill.specs.Judge.{tileIndex, numberAt}
 use Rattle.forms.specs.declared.Head.{Head}
 use Rattle.forms.specs.declared.Form.{Form}

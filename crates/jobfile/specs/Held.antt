@@ -9,11 +9,11 @@ use lib.ListN.{length, take, drop, set, replicate}
 use Rattle.geometry.specs.declared.Rect.{Rect}
 use Rattle.geometry.specs.Layout.{Disjoint, Layer, rectsOf, withRect}
 use Rattle.spelling.specs.Scanning.{lineLength}
-use Rattle.fill.specs.declared.Part.{Part}
-use Rattle.fill.specs.Eligible.{tile}
-use Rattle.fill.specs.Free.{regionNumbers, Regions, withRegion, freeIn, Serves}
+use Rattle.spacing.specs.declared.Part.{Part}
+use Rattle.spacing.specs.Eligible.{tile}
+use Rattle.spacing.specs.Free.{regionNumbers, Regions, withRegion, freeIn, Serves}
 use Rattle.fill.specs.Judge.{numberAt}
-use Rattle.fill.specs.Sizes.{SmallKeepout}
+use Rattle.spacing.specs.Sizes.{SmallKeepout, SmallTable}
 use Rattle.forms.specs.declared.Head.{Head}
 use Rattle.forms.specs.declared.Kind.{Kind}
 use Rattle.forms.specs.declared.Kind.the-variants.{Drawn, Dummy}
@@ -184,6 +184,7 @@ pub record TileIn (h : Head) (i j : ℕ) : Type 0 where
 pub record RegionsHeld (s : State) (regions : List ℕ) : Type 0 where
   pub within : regionNumbers * s .count ≤ length regions
   pub head : GoodHead (s .head)
+  pub small : SmallTable (take (regionNumbers * s .count) regions)
   pub near : NearHeld (s .head) (take (regionNumbers * s .count) regions) (s .near)
 
 -- the free area of tile (i, j), by the regions

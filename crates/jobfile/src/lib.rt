@@ -6,7 +6,6 @@ mod parts;
 mod reader;
 mod rooms;
 
-use fill::Part;
 pub use filling::plan_of;
 use forms::Head;
 use forms::MOST_BYTES;
@@ -15,6 +14,7 @@ use reader::refusal;
 use rooms::AMOUNTS_ROOM;
 use rooms::REGIONS_ROOM;
 use rooms::SHAPES_ROOM;
+use spacing::Part;
 ghost use mathlib.Core.Path.{_≡_};
 ghost use Rattle.forms.specs.Limits.{unitLimits};
 ghost use Rattle.jobfile.specs.File.{outcomeOf};

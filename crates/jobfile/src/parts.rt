@@ -2,15 +2,15 @@
 // fills of a row are counted by the regions that come near it.
 use crate::Near;
 use crate::State;
-use fill::Part;
-use fill::REGION_NUMBERS;
-use fill::part_near;
 use forms::tile_side;
 use geometry::Rect;
+use spacing::Part;
+use spacing::REGION_NUMBERS;
+use spacing::part_near;
 ghost use mathlib.Core.Path.{_≡_};
 ghost use Prim.Native.Nat.{_*_, _<_};
 ghost use lib.ListN.{take};
-ghost use Rattle.fill.specs.Free.{regionNumbers};
+ghost use Rattle.spacing.specs.Free.{regionNumbers};
 ghost use Rattle.forms.specs.Forms.{tilesAcross};
 ghost use Rattle.jobfile.specs.Held.{isRow, partFor, NearHeld, RegionsHeld};
 

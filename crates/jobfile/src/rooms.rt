@@ -1,7 +1,7 @@
 // How many numbers the tables have room for, by the limits of a file.
-use fill::REGION_NUMBERS;
 use forms::MOST_SHAPES;
 use forms::MOST_TILES;
+use spacing::REGION_NUMBERS;
 
 // The corners of shapes, four numbers each, and their kinds behind them.
 pub(crate) const CORNERS_ROOM: usize = 4 * MOST_SHAPES;

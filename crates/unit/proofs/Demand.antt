@@ -29,7 +29,7 @@ use Rattle.zoom.proofs.Steps.{step-positive}
 use Rattle.zoom.proofs.Starts.{start-fits, fits-start}
 use Rattle.zoom.proofs.Bracket.{Bracketing, Promised, Accurate, quick-run-promises, levels-at-most, named-start, named-over-starts, level-brackets, level-narrows}
 use Rattle.zoom.proofs.RunEnd.{EndsAtLevel, run-end}
-use Rattle.fill.specs.declared.Keepout.{Keepout}
+use Rattle.spacing.specs.declared.Keepout.{Keepout}
 use Rattle.fill.specs.declared.Plan.{Plan}
 use Rattle.fill.specs.declared.Bound.{Bound}
 use Rattle.fill.specs.declared.Bound.the-variants.{Over, Under}

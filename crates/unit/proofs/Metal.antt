@@ -12,7 +12,7 @@ use Rattle.geometry.specs.Count.{rectSum}
 use Rattle.geometry.specs.Layout.{holds, covered, coveredArea, Disjoint}
 use Rattle.geometry.specs.Overlaps.{overlap}
 use Rattle.geometry.proofs.Overlaps.{overlap-is-area}
-use Rattle.fill.specs.Eligible.{clearOf, clearOfAll, rectsIn, eligible}
+use Rattle.spacing.specs.Eligible.{clearOf, clearOfAll, rectsIn, eligible}
 use Rattle.forms.specs.declared.Gap.{Gap}
 use Rattle.forms.specs.declared.Kind.{Kind}
 use Rattle.forms.specs.declared.Kind.the-variants.{Drawn, Dummy}

@@ -16,10 +16,10 @@ use Rattle.extremes.specs.Exact.{windowArea, windowShapes, Position, extremeIn}
 use Rattle.zoom.specs.declared.Level.{Level}
 use Rattle.zoom.specs.declared.Quick.{Quick}
 use Rattle.zoom.specs.Run.{lastLevel, levelStep, levelAt, lowEnd, highEnd, Brackets, Narrows, endNumber}
-use Rattle.fill.specs.declared.Keepout.{Keepout}
+use Rattle.spacing.specs.declared.Keepout.{Keepout}
 use Rattle.fill.specs.declared.Bound.{Bound}
 use Rattle.fill.specs.declared.Verdict.{Verdict}
-use Rattle.fill.specs.Eligible.{clearOf}
+use Rattle.spacing.specs.Eligible.{clearOf}
 use Rattle.fill.specs.Judge.{boundNumber, verdictNumbers}
 use Rattle.fill.specs.Placement.{Placement, placedSum, keeps}
 use Rattle.forms.specs.declared.Kind.{Kind}

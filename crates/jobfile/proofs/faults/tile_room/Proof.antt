@@ -5,8 +5,8 @@ use borrow.Author.Needs.{needs}
 use denote.Ref.{now}
 use lib.ListN.{take}
 use lib.Seq.{length-take-le}
-use Rattle.fill.specs.Eligible.{tile}
-use Rattle.fill.specs.Free.{regionNumbers, freeIn}
+use Rattle.spacing.specs.Eligible.{tile}
+use Rattle.spacing.specs.Free.{regionNumbers, freeIn}
 use Rattle.forms.specs.Forms.{tileSide}
 use Rattle.jobfile.proofs.Rows.{tile-served}
 use Rattle.jobfile.proofs.Faulting.{tile-corners, tile-small}
@@ -31,9 +31,12 @@ fillable-requires c κs =
     let start = c .before .before .before .before .before .before in
     let s = start .args .s in
     let is = box (c .before .before) in (
-      tile-small (s .head) _ _ _ (start .pre .0 .head) (start .pre .1) is,
-      tile-served (s .head) (take (regionNumbers * s .count) (now (start .args .regions))) (s .near) _ _ (regionNumbers * s .count) _ _ (start .pre .0 .head) (start .pre .1)
-          (start .pre .0 .near) (sym (length-take-le _ _ (start .pre .0 .within))) is (c .before .part-for .ensures),
+      start .pre .0 .small,
+      (
+        tile-small (s .head) _ _ _ (start .pre .0 .head) (start .pre .1) is,
+        tile-served (s .head) (take (regionNumbers * s .count) (now (start .args .regions))) (s .near) _ _ (regionNumbers * s .count) _ _ (start .pre .0 .head) (start .pre .1)
+            (start .pre .0 .near) (sym (length-take-le _ _ (start .pre .0 .within))) is (c .before .part-for .ensures),
+      ),
     )
 
 returns : tie.Need-returns

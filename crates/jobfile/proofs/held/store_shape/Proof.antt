@@ -6,7 +6,7 @@ use native.Mathlib.Omega.{arith}
 use borrow.Author.Needs.{needs}
 use denote.Ref.{now}
 use lib.ListN.{set}
-use Rattle.fill.specs.Free.{withRegion}
+use Rattle.spacing.specs.Free.{withRegion}
 use Rattle.jobfile.specs.Held.{cornersRoom}
 use Rattle.jobfile.proofs.held.store_shape.Statement.{statement}
 use Rattle.jobfile.proofs.held.store_shape.Tie as tie
@@ -18,7 +18,7 @@ keep-out-requires : tie.Need-keep-out-requires
 keep-out-requires c κs =
     let s = c .before .before .before .before .before .before .before .before .before .before .before in (
       omega (arith, s .pre .more, s .pre .regions-room),
-      record { right = s .pre .small .right; high = s .pre .small .high; narrow = omega (arith, c .gap-for .ensures, s .pre .small .narrow) },
+      record { left = s .pre .small .left; low = s .pre .small .low; right = s .pre .small .right; high = s .pre .small .high; narrow = omega (arith, c .gap-for .ensures, s .pre .small .narrow) },
     )
 
 write : tie.Need-slice-write-shapes

@@ -3,7 +3,7 @@ use mathlib.Core.Path.{sym}
 use native.Mathlib.Omega.{arith}
 use borrow.Author.Needs.{needs}
 use lib.Seq.{length-take-le}
-use Rattle.jobfile.proofs.Rows.{row-end, row-served}
+use Rattle.jobfile.proofs.Rows.{row-end, row-small, row-served}
 use Rattle.jobfile.proofs.parts.near_row.Statement.{statement}
 use Rattle.jobfile.proofs.parts.near_row.Tie as tie
 
@@ -11,6 +11,11 @@ row-fits : tie.Need-add-t13
 row-fits c =
     let s = c .before .before .before .before .before in
     omega (arith, row-end (s .args .s) (s .args .regions .now) (s .args .row) _ (s .pre .0) (s .pre .1) (c .tile-side .ensures))
+
+part-near-requires : tie.Need-part-near-requires
+part-near-requires c κs =
+    let s = c .before .before .before .before .before .before in
+    (s .pre .0 .small, row-small (s .args .s) (s .args .regions .now) (s .args .row) _ (s .pre .0) (s .pre .1) (c .before .tile-side .ensures))
 
 returns-2 : tie.Need-returns-2
 returns-2 c =
@@ -24,4 +29,4 @@ near-row-spec =
     (λ c.
     let s = c .before .before .before .before .before in
     omega (arith, row-end (s .args .s) (s .args .regions .now) (s .args .row) _ (s .pre .0) (s .pre .1) (c .tile-side .ensures)))
-    row-fits (λ c. sym (length-take-le _ _ (c .before .before .before .before .before .before .pre .0 .within))) (λ c κs. search needs) returns-2)
+    row-fits (λ c. sym (length-take-le _ _ (c .before .before .before .before .before .before .pre .0 .within))) part-near-requires returns-2)
