@@ -176,7 +176,7 @@ enum Preference {
 }
 
 impl Placement {
-    fn new(random: &mut Random, job: &Job, grid: &Grid, preference: Preference) -> Placement {
+    fn new(random: &mut Random, job: &Job, preference: Preference) -> Placement {
         let end = job.last_position() + 1;
         let (left, bottom) = (random.below(end), random.below(end));
         let inside = |&(x, y): &(u64, u64)| {
@@ -187,7 +187,7 @@ impl Placement {
         let tiles = brute::squares(0..job.tiles(), 0..job.tiles());
         for ((column, row), &amount) in tiles.zip(&job.fills) {
             let mut squares: Vec<(u64, u64)> = brute::tile_squares(job, column, row)
-                .filter(|&(x, y)| brute::is_eligible(job, grid, x, y))
+                .filter(|&square| brute::is_eligible(job, square))
                 .collect();
             random.shuffle(&mut squares);
             match preference {
@@ -217,7 +217,7 @@ fn verdicts_hold_for_placements() {
         let grid = Grid::new(&job);
         let verdict = Method::Fast.outcome(&job).verdict;
         for preference in [Preference::None, Preference::Inside, Preference::Outside] {
-            let placement = Placement::new(random, &job, &grid, preference);
+            let placement = Placement::new(random, &job, preference);
             match verdict {
                 Verdict::Safe => assert_keeps_both(&job, &grid, &placement),
                 Verdict::Broken(named) => assert_breaks(&job, &grid, &placement, named),
