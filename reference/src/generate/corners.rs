@@ -1,7 +1,7 @@
 //! Jobs that fill a tile at a round corner with all that it can take, or with one
 //! square more.
 
-use super::kinds::of_random_kinds;
+use super::kinds::of_random_kind;
 use super::line::{bytes_of, Line};
 use super::random::Random;
 use super::small::{choose_bounds, dropped, fills, lines_in_any_order};
@@ -41,9 +41,9 @@ fn filled_at_a_corner(random: &mut Random, make: fn(&mut Random) -> Job, excess:
     let (mut job, fillable, tile) = loop {
         let job = make(random);
         let fillable = fast::fillable_areas(&job);
-        let gaining = tiles_that_gain(&job, &fillable);
-        if !gaining.is_empty() {
-            break (job, fillable, random.pick(&gaining));
+        let tiles = tiles_at_corners(&job, &fillable);
+        if !tiles.is_empty() {
+            break (job, fillable, random.pick(&tiles));
         }
     };
     job.fills = fills(random, &fillable);
@@ -53,8 +53,9 @@ fn filled_at_a_corner(random: &mut Random, make: fn(&mut Random) -> Job, excess:
     lines_in_any_order(random, &job)
 }
 
-/// Tiles with room that they have only because corners are round.
-fn tiles_that_gain(job: &Job, fillable: &[u64]) -> Vec<usize> {
+/// Tiles with room that they have only because corners are round, given what each
+/// tile can take.
+pub(super) fn tiles_at_corners(job: &Job, fillable: &[u64]) -> Vec<usize> {
     let cautious = cautious_areas(job);
     let gains = |&tile: &usize| fillable[tile] > cautious[tile];
     (0..fillable.len()).filter(gains).collect()
@@ -83,8 +84,10 @@ fn sparse_job(random: &mut Random, tile: u64, tiles: u64, widest: u64) -> Job {
         1 => (gap + random.between(1, 2)).min(GAP.1),
         _ => random.below(widest + 1),
     };
-    let count = random.between(1, 6);
-    let boxes = dropped(random, size, count, size.div_ceil(4));
+    let count = random.between(1, 10);
+    let boxes = dropped(random, size, count, size.div_ceil(6));
+    let shape = |corners| of_random_kind(random, corners);
+    let shapes = boxes.into_iter().map(shape).collect();
     Job {
         size,
         window: cut * tile,
@@ -92,7 +95,7 @@ fn sparse_job(random: &mut Random, tile: u64, tiles: u64, widest: u64) -> Job {
         gap,
         dummy_gap,
         levels: random.between(1, 6),
-        shapes: of_random_kinds(random, boxes),
+        shapes,
         ..Job::default()
     }
 }

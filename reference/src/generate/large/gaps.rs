@@ -57,8 +57,8 @@ fn short_sides(size: u64) -> Vec<[u64; 4]> {
     narrowed(&mut random, boxes)
 }
 
-/// Single squares along the diagonal. What they bar is a band, and each of them
-/// has a part in both of its sides.
+/// Single squares along the diagonal. What they bar is a band, and nearly all of
+/// them have a part in both of its sides.
 pub(super) fn around_a_diagonal(gap: u64) -> Job {
     let (bare, count) = (most_tiles(), MOST_SHAPES as u64);
     let step = bare.size / count;
@@ -67,9 +67,9 @@ pub(super) fn around_a_diagonal(gap: u64) -> Job {
 }
 
 /// Single squares on a quarter circle around the layout's corner. What a gap as
-/// wide as the layout leaves lies in the far corner, and each square has a part in
-/// its edge. Only round corners leave anything there, so no amount is a sure one,
-/// and each tile is filled wholly.
+/// wide as the layout leaves lies in the far corner, and many squares have a part
+/// in its edge. Only round corners leave anything there, so no amount is a sure
+/// one, and each tile is filled wholly.
 pub(super) fn around_a_circle(gap: u64) -> Job {
     let (step, count) = (12, MOST_SHAPES as u64);
     let radius = step * (count - 1);
