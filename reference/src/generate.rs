@@ -34,7 +34,6 @@ pub const COMPARED_FAULTY_SEEDS: Range<u64> = 2_000_000..2_005_000;
 pub const COMPARED_DAMAGED_SEEDS: Range<u64> = 3_000_000..3_005_000;
 /// Those of the large random jobs.
 pub const COMPARED_LARGE_SEEDS: Range<u64> = 5_000_000..5_000_030;
-
 /// Those of the jobs with a full tile at a round corner, and of the same jobs with
 /// one square more in it.
 pub const COMPARED_CORNER_SEEDS: Range<u64> = 6_000_000..6_001_000;
