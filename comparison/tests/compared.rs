@@ -2,8 +2,9 @@
 
 use comparison::{compare, on_large_stack};
 use reference::generate::{
-    boundary_jobs, damaged_job, faulty_job, large_job, large_jobs, mixed_job, small_job, Random,
-    COMPARED_DAMAGED_SEEDS, COMPARED_FAULTY_SEEDS, COMPARED_LARGE_SEEDS, COMPARED_SEEDS,
+    boundary_jobs, corner_job, damaged_job, faulty_job, large_corner_job, large_job, large_jobs,
+    mixed_job, small_job, Random, COMPARED_CORNER_SEEDS, COMPARED_DAMAGED_SEEDS,
+    COMPARED_FAULTY_SEEDS, COMPARED_LARGE_CORNER_SEEDS, COMPARED_LARGE_SEEDS, COMPARED_SEEDS,
 };
 use std::ops::Range;
 
@@ -44,6 +45,22 @@ fn large_random_jobs() {
 }
 
 #[test]
+fn full_tiles_at_corners() {
+    compare_seeds(COMPARED_CORNER_SEEDS, |random| corner_job(random, 0));
+    compare_seeds(COMPARED_LARGE_CORNER_SEEDS, |random| {
+        large_corner_job(random, 0)
+    });
+}
+
+#[test]
+fn one_square_too_much_at_corners() {
+    compare_seeds(COMPARED_CORNER_SEEDS, |random| corner_job(random, 1));
+    compare_seeds(COMPARED_LARGE_CORNER_SEEDS, |random| {
+        large_corner_job(random, 1)
+    });
+}
+
+#[test]
 fn heaviest_jobs() {
     on_large_stack(|| {
         for job in large_jobs() {
@@ -77,6 +94,7 @@ fn sample_jobs() {
         ("safe", "(density 4062)"),
         ("half", "(density 938)"),
         ("dummies", "(fill safe)"),
+        ("corners", "(fill safe)"),
         ("refused", "(refused 11 8)"),
     ];
     on_large_stack(move || {

@@ -1,7 +1,8 @@
 //! The same answers for every legal job, in little time.
 
+use crate::barred;
 use crate::cover::{Cover, Span, Strip};
-use crate::job::{self, overlap, Job, Refusal, Shape};
+use crate::job::{self, overlap, Job, Refusal};
 use crate::outcome::{End, Exact, Failure, Quick, Side, Verdict, Window};
 use crate::sense::Sense;
 use std::ops::Range;
@@ -25,23 +26,8 @@ pub fn shapes(job: &Job, corners: [u64; 4]) -> u64 {
 }
 
 /// Fillable area of each tile, row by row.
-///
-/// A shape bars fill from itself and from all squares nearer than its gap on
-/// both axes: together, from itself widened by the gap on all four sides.
 pub fn fillable_areas(job: &Job) -> Vec<u64> {
-    let barred = |shape: &Shape| {
-        let ([x1, y1, x2, y2], gap) = (shape.corners, job.gap_to(shape.kind));
-        let before = |side: u64| side.saturating_sub(gap);
-        let after = |side: u64| (side + gap).min(job.size);
-        [before(x1), before(y1), after(x2), after(y2)]
-    };
-    let boxes: Vec<[u64; 4]> = job.shapes.iter().map(barred).collect();
-    let side = job.tile_side();
-    Cover::new(job.size, &boxes)
-        .tile_areas(side, job.tiles())
-        .into_iter()
-        .map(|area| side * side - area)
-        .collect()
+    barred::free_areas(job)
 }
 
 /// The extremes over all window positions.

@@ -5,6 +5,7 @@
 //! made again.
 
 mod boundary;
+mod corners;
 mod damage;
 mod faulty;
 mod kinds;
@@ -14,6 +15,7 @@ mod random;
 mod small;
 
 pub use boundary::{boundary_jobs, BoundaryJob};
+pub use corners::{cautious_areas, corner_job, large_corner_job};
 pub use damage::damaged_job;
 pub use faulty::{faulty_job, job_with_fault, SPOILABLE};
 pub use large::{large_job, large_jobs, LargeJob};
@@ -32,6 +34,11 @@ pub const COMPARED_FAULTY_SEEDS: Range<u64> = 2_000_000..2_005_000;
 pub const COMPARED_DAMAGED_SEEDS: Range<u64> = 3_000_000..3_005_000;
 /// Those of the large random jobs.
 pub const COMPARED_LARGE_SEEDS: Range<u64> = 5_000_000..5_000_030;
+/// Those of the jobs with a full tile at a round corner, and of the same jobs with
+/// one square more in it.
+pub const COMPARED_CORNER_SEEDS: Range<u64> = 6_000_000..6_001_000;
+/// Those of such jobs at full size.
+pub const COMPARED_LARGE_CORNER_SEEDS: Range<u64> = 7_000_000..7_000_012;
 
 /// Any small job: half of them valid, the others faulty or damaged.
 pub fn mixed_job(random: &mut Random) -> Vec<u8> {

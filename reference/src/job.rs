@@ -84,7 +84,7 @@ impl Job {
     }
 
     /// Least gap between fill and a shape of this kind.
-    pub(crate) fn gap_to(&self, kind: Kind) -> u64 {
+    pub fn gap_to(&self, kind: Kind) -> u64 {
         match kind {
             Kind::Drawn => self.gap,
             Kind::Dummy => self.dummy_gap,

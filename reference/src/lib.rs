@@ -8,6 +8,7 @@
 //! which implementations are compared.
 
 pub mod answer;
+mod barred;
 pub mod brute;
 pub mod cover;
 pub mod fast;

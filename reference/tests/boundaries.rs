@@ -4,11 +4,12 @@ mod common;
 
 use common::printed_by_both;
 use reference::answer::{answer, answer_by, printed, Method, Reply, ANSWER_ROOM};
-use reference::generate::{boundary_jobs, large_job, large_jobs, Random};
+use reference::generate::{boundary_jobs, cautious_areas, large_job, large_jobs, LargeJob, Random};
 use reference::job::{Job, Kind, Refusal};
 use reference::outcome::{End, Exact, Failure, Outcome, Quick, Shown, Side, Verdict, Window};
 use reference::sense::Sense;
 use reference::{brute, fast};
+use std::sync::LazyLock;
 
 #[test]
 fn acceptance_and_refusal_at_the_limits() {
@@ -187,7 +188,7 @@ fn refused_files_write_nothing() {
 #[test]
 fn large_jobs_are_accepted() {
     let mut random = Random::new(77);
-    let fixed = large_jobs().into_iter().map(|large| large.job);
+    let fixed = LARGE_JOBS.iter().map(|large| large.job.clone());
     let jobs: Vec<Vec<u8>> = fixed
         .chain((0..40).map(|_| large_job(&mut random)))
         .collect();
@@ -198,9 +199,12 @@ fn large_jobs_are_accepted() {
     }
 }
 
+/// Made once, since the areas of some take a while.
+static LARGE_JOBS: LazyLock<Vec<LargeJob>> = LazyLock::new(large_jobs);
+
 /// One of the heaviest jobs, by its name.
 fn heaviest_job(name: &str) -> Job {
-    let large = large_jobs().into_iter().find(|large| large.name == name);
+    let large = LARGE_JOBS.iter().find(|large| large.name == name);
     fast::read(&large.unwrap().job).unwrap()
 }
 
@@ -250,6 +254,67 @@ fn heaviest_jobs_with_dummies_have_many_of_both_kinds() {
     }
     let bars = heaviest_job("bars and dummies");
     assert_eq!(Method::Fast.outcome(&bars).verdict, Verdict::Safe);
+}
+
+/// Each has as many fills as fit in its file, or as there are tiles with room.
+#[test]
+fn heaviest_jobs_by_gap_have_many_fills_and_arcs() {
+    for (name, gap, fills, gaining) in [
+        ("gap of 0", 0, 3500, 0),
+        ("gap of 100", 100, 3500, 1100),
+        ("gap of 1,500", 1500, 3000, 3200),
+        ("gap of 8,000", 8000, 2400, 600),
+        ("gap of 65,535", 65_535, 690, 690),
+        ("single tile", 1500, 1, 1),
+    ] {
+        let job = heaviest_job(name);
+        assert_eq!((job.gap, job.shapes.len()), (gap, 256), "{name}");
+        assert!(filled(&job) >= fills, "{name}: {}", filled(&job));
+        let areas = fast::fillable_areas(&job);
+        let pairs = areas.iter().zip(cautious_areas(&job));
+        let gains = pairs.filter(|(area, cautious)| *area > cautious).count();
+        assert!(gains >= gaining, "{name}: {gains}");
+    }
+    assert_eq!(heaviest_job("single tile").tiles(), 1);
+    assert_eq!(heaviest_job("single tile").size, 65_535);
+}
+
+/// Without one of these shapes more would be left: other shapes do not bar all that
+/// it bars.
+#[test]
+fn heaviest_jobs_by_gap_need_many_of_their_shapes() {
+    for (name, least) in [("gap of 8,000", 13), ("gap of 65,535", 4)] {
+        let job = heaviest_job(name);
+        let room = |job: &Job| fast::fillable_areas(job).iter().sum::<u64>();
+        let with_all = room(&job);
+        let is_needed = |place: &usize| {
+            let mut without = job.clone();
+            without.shapes.remove(*place);
+            room(&without) > with_all
+        };
+        let sampled = (0..job.shapes.len()).step_by(16);
+        let needed = sampled.filter(is_needed).count();
+        assert!(needed >= least, "{name}: {needed} of 16");
+    }
+}
+
+/// A unit that is more careful at corners accepts all of them but one, in which
+/// only round corners leave any room.
+#[test]
+fn fills_of_the_heaviest_jobs_are_cautious() {
+    for LargeJob { name, job } in LARGE_JOBS.iter() {
+        let job = fast::read(job).unwrap();
+        let mut pairs = job.fills.iter().zip(cautious_areas(&job));
+        if *name == "gap of 65,535" {
+            assert_eq!(job.fills, fast::fillable_areas(&job), "{name}");
+            assert!(pairs.all(|(_, cautious)| cautious == 0), "{name}");
+        } else {
+            assert!(
+                pairs.all(|(amount, cautious)| *amount <= cautious),
+                "{name}"
+            );
+        }
+    }
 }
 
 #[test]

@@ -1,8 +1,9 @@
 //! Whether the generated jobs reach every kind of answer and refusal.
 
 mod counts;
+mod verdicts;
 
-use counts::{verdict_name, Counts};
+use counts::Counts;
 use reference::answer::{answer, Method, Reply, ANSWER_ROOM};
 use reference::fast;
 use reference::generate::{
@@ -11,6 +12,7 @@ use reference::generate::{
 use reference::job::Job;
 use reference::outcome::{End, Exact, Outcome, Quick, Shown};
 use reference::sense::Sense;
+use verdicts::verdict_name;
 
 fn line_name(sense: Sense) -> &'static str {
     match sense {

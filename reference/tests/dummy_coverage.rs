@@ -1,8 +1,9 @@
 //! Whether the compared jobs reach all that dummies and their gap bring about.
 
 mod counts;
+mod verdicts;
 
-use counts::{verdict_name, Counts};
+use counts::Counts;
 use reference::answer::Method;
 use reference::fast;
 use reference::generate::{
@@ -12,6 +13,7 @@ use reference::generate::{
 use reference::job::{Job, Kind, Refusal};
 use std::cmp::Ordering;
 use std::ops::Range;
+use verdicts::verdict_name;
 
 /// Counts what is seen in the jobs of these seeds. A damaged one need not be
 /// text; what is not is of no interest here.

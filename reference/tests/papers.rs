@@ -699,6 +699,88 @@ fn a_gap_on_one_axis_is_enough() {
     assert_eq!(areas[2 * 4..3 * 4], [2, 2, 3, 4]);
 }
 
+/// Whether a unit square takes fill that is so far across and down from a shape
+/// with this gap; at its four corners the answer must be the same. Each square is
+/// a tile, and the other kind has the widest gap, but no shapes.
+fn takes_fill(word: &str, gap: u64, across: u64, down: u64) -> bool {
+    let gaps = match word {
+        "rect" => format!("{gap} 65535"),
+        _ => format!("65535 {gap}"),
+    };
+    let head =
+        format!("(job (size 18) (window 18) (cut 18) (gap {gaps}) (bounds 0 10000) (zoom 0 6))");
+    let is_accepted = |x: u64, y: u64| {
+        let file = format!("{head}\n({word} 8 8 10 10)\n(fill {x} {y} 1)\n(end)\n");
+        printed_by_both(file.as_bytes()) != "(refused 11 3)\n"
+    };
+    let [left, right] = [7 - across, 10 + across];
+    let [below, above] = [7 - down, 10 + down];
+    let first = is_accepted(left, below);
+    for (x, y) in [(left, above), (right, below), (right, above)] {
+        assert_eq!(is_accepted(x, y), first, "{word} {gaps} at {x} {y}");
+    }
+    first
+}
+
+#[test]
+fn corner_gaps_are_round() {
+    for (gap, across, down, far_enough) in [
+        // The row of request 6: 9 and 9 are 18, and 16 are asked.
+        (4, 3, 3, true),
+        (4, 3, 2, false),
+        (4, 2, 2, false),
+        (4, 3, 0, false),
+        (4, 4, 0, true),
+        // 16 and 9 are 25, which is just what is asked.
+        (5, 4, 3, true),
+        (5, 3, 3, false),
+        (5, 4, 2, false),
+        (5, 4, 0, false),
+        (5, 5, 0, true),
+        // Up to 3 no square is far enough by both axes that is not by one.
+        (3, 2, 2, false),
+        (3, 3, 0, true),
+        (2, 1, 1, false),
+        (2, 2, 0, true),
+        (1, 0, 0, false),
+        (1, 1, 0, true),
+    ] {
+        for word in ["rect", "dummy"] {
+            for (across, down) in [(across, down), (down, across)] {
+                let takes = takes_fill(word, gap, across, down);
+                assert_eq!(takes, far_enough, "{word} {gap} {across} {down}");
+            }
+        }
+    }
+}
+
+#[test]
+fn without_a_gap_all_that_is_uncovered_is_fillable() {
+    for word in ["rect", "dummy"] {
+        assert!(takes_fill(word, 0, 0, 0), "{word}");
+    }
+    // The shape's own squares, and those that touch its sides and corners.
+    let head = HEAD.replace("(cut 2) (gap 1)", "(cut 4) (gap 0)");
+    let areas = fillable(&format!("{head}(rect 3 3 4 5)\n(end)\n"));
+    let covered = [3 * 8 + 3, 4 * 8 + 3];
+    let expected = (0..64).map(|square| u64::from(!covered.contains(&square)));
+    assert_eq!(areas, expected.collect::<Vec<_>>());
+}
+
+#[test]
+fn each_shape_is_kept_clear_of_by_itself() {
+    // The square at 4 4 is 3 across and 3 down from both, on opposite sides. If the
+    // second comes nearer on either axis, the first one being as far does not help.
+    let head = "(job (size 9) (window 9) (cut 9) (gap 4 4) (bounds 0 10000) (zoom 0 6))";
+    let areas = |second: &str| {
+        let file = format!("{head}\n(rect 0 0 1 1)\n(dummy {second})\n(end)\n");
+        fillable(&file)
+    };
+    assert_eq!(areas("8 8 9 9")[4 * 9 + 4], 1);
+    assert_eq!(areas("7 8 8 9")[4 * 9 + 4], 0);
+    assert_eq!(areas("8 7 9 8")[4 * 9 + 4], 0);
+}
+
 #[test]
 fn dummies_do_not_count_as_free_without_a_gap() {
     let file = "(job (size 4) (window 2) (cut 1) (gap 5 0) (bounds 0 10000) (zoom 0 6))\n\

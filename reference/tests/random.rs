@@ -2,6 +2,7 @@
 //! answer against what they promise. The seed of a failing job is printed.
 
 mod common;
+mod seeds;
 
 use common::printed_by_both;
 use reference::answer::Method;
@@ -13,16 +14,8 @@ use reference::generate::{
 use reference::job::{Job, Kind, Shape};
 use reference::outcome::{End, Failure, Outcome, Quick, Shown, Side, Verdict, Window};
 use reference::sense::Sense;
+use seeds::for_seeds;
 use std::cell::Cell;
-
-/// Runs a check on random sources with consecutive seeds.
-fn for_seeds(first: u64, count: u64, check: impl Fn(&mut Random)) {
-    println!("seeds {first} to {}", first + count - 1);
-    for seed in first..first + count {
-        println!("seed {seed}");
-        check(&mut Random::new(seed));
-    }
-}
 
 #[test]
 fn brute_and_fast_agree_on_valid_jobs() {
@@ -58,14 +51,6 @@ fn stated_size(file: &[u8]) -> Option<u64> {
 
 fn valid_job(random: &mut Random) -> Job {
     fast::read(&small_job(random)).expect("small jobs are valid")
-}
-
-#[test]
-fn fillable_areas_agree() {
-    for_seeds(40_000, 3000, |random| {
-        let job = valid_job(random);
-        assert_eq!(fast::fillable_areas(&job), brute::fillable_areas(&job));
-    });
 }
 
 #[test]
@@ -176,7 +161,7 @@ enum Preference {
 }
 
 impl Placement {
-    fn new(random: &mut Random, job: &Job, grid: &Grid, preference: Preference) -> Placement {
+    fn new(random: &mut Random, job: &Job, preference: Preference) -> Placement {
         let end = job.last_position() + 1;
         let (left, bottom) = (random.below(end), random.below(end));
         let inside = |&(x, y): &(u64, u64)| {
@@ -187,7 +172,7 @@ impl Placement {
         let tiles = brute::squares(0..job.tiles(), 0..job.tiles());
         for ((column, row), &amount) in tiles.zip(&job.fills) {
             let mut squares: Vec<(u64, u64)> = brute::tile_squares(job, column, row)
-                .filter(|&(x, y)| brute::is_eligible(job, grid, x, y))
+                .filter(|&square| brute::is_eligible(job, square))
                 .collect();
             random.shuffle(&mut squares);
             match preference {
@@ -217,7 +202,7 @@ fn verdicts_hold_for_placements() {
         let grid = Grid::new(&job);
         let verdict = Method::Fast.outcome(&job).verdict;
         for preference in [Preference::None, Preference::Inside, Preference::Outside] {
-            let placement = Placement::new(random, &job, &grid, preference);
+            let placement = Placement::new(random, &job, preference);
             match verdict {
                 Verdict::Safe => assert_keeps_both(&job, &grid, &placement),
                 Verdict::Broken(named) => assert_breaks(&job, &grid, &placement, named),
@@ -354,22 +339,41 @@ fn without_fills_gaps_and_kinds_are_nothing() {
     });
 }
 
-/// Magnifying a job by an odd factor keeps the number of halvings, so all of
-/// the answer is the small one's, magnified, its shapes as many. This holds the fast method at
-/// full size to the squares counted at small size.
+/// Magnifying a job by an odd factor keeps the number of halvings, so all of the
+/// answer is the small one's, magnified, its shapes as many. This holds the fast
+/// method at full size to the squares counted at small size.
+///
+/// Fillable areas are the exception: the finer the squares, the more of them fit
+/// beside an arc. So there is room for all magnified fills, and often for more.
 #[test]
 fn magnified_jobs_have_magnified_answers() {
     for_seeds(70_000, 2000, |random| {
-        let mut lines = small_lines(random);
-        let small = brute::read(&bytes_of(&lines)).unwrap();
-        let factor = (65_535 / small.size - random.below(3)).saturating_sub(1) | 1;
-        for line in &mut lines {
-            magnify(line, factor);
-        }
-        let large = fast::read(&bytes_of(&lines)).unwrap();
+        let (small, factor, large) = job_and_magnified(random);
         let expected = magnified(Method::Brute.outcome(&small), factor);
         assert_eq!(Method::Fast.outcome(&large), expected, "{small:?}");
     });
+}
+
+#[test]
+fn magnified_jobs_have_as_much_room() {
+    for_seeds(75_000, 400, |random| {
+        let (small, factor, large) = job_and_magnified(random);
+        let areas = brute::fillable_areas(&small).into_iter();
+        for (area, magnified) in areas.zip(fast::fillable_areas(&large)) {
+            assert!(area * factor * factor <= magnified, "{small:?}");
+        }
+    });
+}
+
+/// A small job, a factor that leaves about the widest layout, and the job magnified.
+fn job_and_magnified(random: &mut Random) -> (Job, u64, Job) {
+    let mut lines = small_lines(random);
+    let small = brute::read(&bytes_of(&lines)).unwrap();
+    let factor = (65_535 / small.size - random.below(3)).saturating_sub(1) | 1;
+    for line in &mut lines {
+        magnify(line, factor);
+    }
+    (small, factor, fast::read(&bytes_of(&lines)).unwrap())
 }
 
 fn magnify(line: &mut Line, factor: u64) {
@@ -377,7 +381,8 @@ fn magnify(line: &mut Line, factor: u64) {
         Line::Head([size, window, _, gap, ..], dummy_gap) => {
             *size *= factor;
             *window *= factor;
-            // A gap as wide as the layout stays so.
+            // A gap that would be out of range becomes the widest, which leaves
+            // no less than itself would.
             for gap in [Some(gap), dummy_gap.as_mut()].into_iter().flatten() {
                 *gap = (*gap * factor).min(65_535);
             }

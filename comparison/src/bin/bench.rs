@@ -10,8 +10,9 @@
 //!
 //! An argument names an earlier state of the library, which is then timed in turn
 //! with the linked one; the lines in which their answers differ are shown. A job
-//! that it refuses, because it does not know all of its forms, is timed without it.
-//! It is a shared object, made in that state's checkout by
+//! that it refuses, because it does not know all of its forms or finds less room for
+//! a fill, is timed without it. It is a shared object, made in that state's checkout
+//! by
 //!
 //! ```text
 //! cc -shared -o earlier.so -Wl,--whole-archive target/staticlib/libunit.a target/staticlib/libphases.a -Wl,--no-whole-archive

@@ -1,13 +1,14 @@
 //! What changed since an earlier state of the library: many jobs through it and
 //! through the linked one, and the number of lines that differ, by the word that
 //! they begin with. Jobs with a form that the earlier state did not know are
-//! counted apart: no line of theirs can be compared. The argument names the
-//! earlier state, as for the benchmark.
+//! counted apart, and so are jobs with a fill for which it found less room: no line
+//! of theirs can be compared. The argument names the earlier state, as for the
+//! benchmark.
 
 use comparison::earlier::{self, changed_lines, word_of};
 use comparison::{on_large_stack, LINKED};
 use reference::generate::{
-    boundary_jobs, damaged_job, faulty_job, large_job, large_jobs, small_job, Random,
+    boundary_jobs, corner_job, damaged_job, faulty_job, large_job, large_jobs, small_job, Random,
 };
 use std::collections::BTreeMap;
 use std::process::ExitCode;
@@ -15,10 +16,11 @@ use std::process::ExitCode;
 /// Random jobs of one kind: how many, and how one is made.
 type Kind = (u64, fn(&mut Random) -> Vec<u8>);
 
-const KINDS: [Kind; 4] = [
+const KINDS: [Kind; 5] = [
     (20_000, small_job),
     (10_000, faulty_job),
     (10_000, damaged_job),
+    (1000, |random| corner_job(random, 0)),
     (200, large_job),
 ];
 
@@ -32,13 +34,14 @@ fn jobs() -> impl Iterator<Item = Vec<u8>> {
     limits.chain(heaviest).chain(random)
 }
 
-/// How many jobs were answered, how many of them have a form that is new, how
-/// many were answered alike, and how many lines of the others changed that begin
-/// with a word.
+/// How many jobs were answered, how many of them have a form that is new, how many
+/// a fill that there is room for now, how many were answered alike, and how many
+/// lines of the others changed that begin with a word.
 #[derive(Default)]
 struct Changes {
     jobs: u64,
     newly_spelled: u64,
+    newly_fillable: u64,
     alike: u64,
     lines: BTreeMap<String, u64>,
 }
@@ -46,8 +49,12 @@ struct Changes {
 impl Changes {
     fn see(&mut self, now: &str, before: &str) {
         self.jobs += 1;
-        if is_newly_spelled(now, before) {
+        if gets_past(2, now, before) {
             self.newly_spelled += 1;
+            return;
+        }
+        if gets_past(11, now, before) {
+            self.newly_fillable += 1;
             return;
         }
         let changed = changed_lines(now, before);
@@ -59,10 +66,21 @@ impl Changes {
     }
 }
 
-/// Whether the earlier state stopped at a line that is none of its spellings, and
-/// the linked one did not stop there for that.
-fn is_newly_spelled(now: &str, before: &str) -> bool {
-    before.starts_with("(refused 2 ") && now != before
+/// Number and line of a refusal.
+fn refusal(printed: &str) -> Option<[u64; 2]> {
+    let numbers = printed.strip_prefix("(refused ")?.strip_suffix(")\n")?;
+    let (number, line) = numbers.split_once(' ')?;
+    Some([number.parse().ok()?, line.parse().ok()?])
+}
+
+/// Whether the earlier state stopped at a line for this fault, and the linked one
+/// goes on there, or finds another fault in it.
+fn gets_past(fault: u64, now: &str, before: &str) -> bool {
+    let stops_no_earlier = |line| refusal(now).is_none_or(|[_, other]| other >= line);
+    match refusal(before) {
+        Some([number, line]) => number == fault && now != before && stops_no_earlier(line),
+        None => false,
+    }
 }
 
 fn main() -> ExitCode {
@@ -82,10 +100,14 @@ fn main() -> ExitCode {
         let Changes {
             jobs,
             newly_spelled,
+            newly_fillable,
             alike,
             lines,
         } = changes;
-        println!("{jobs} jobs, {newly_spelled} newly spelled, {alike} answered alike");
+        println!(
+            "{jobs} jobs, {newly_spelled} newly spelled, {newly_fillable} newly fillable, \
+             {alike} answered alike"
+        );
         for (word, count) in lines {
             println!("{count} lines changed that begin with {word}");
         }

@@ -1,5 +1,6 @@
 //! Jobs at the limits, each with the fault it must be refused with, if any.
 
+mod corners;
 mod gaps;
 mod shapes;
 mod spellings;
@@ -32,6 +33,9 @@ pub fn boundary_jobs() -> Vec<BoundaryJob> {
         greatest_amounts(),
         gaps::decided_by_either(),
         gaps::wide(),
+        corners::single_squares(),
+        corners::far_corners(),
+        corners::crossed_tiles(),
         halves_of_a_wide_window(),
         file_ends(),
     ]

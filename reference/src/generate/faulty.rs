@@ -1,5 +1,6 @@
 //! Random jobs that are well spelled but break the rules, often several.
 
+use super::corners::tiles_at_corners;
 use super::kinds::{of_random_kind, of_random_kinds};
 use super::line::{bytes_of, Line};
 use super::random::Random;
@@ -268,8 +269,8 @@ fn overfill(random: &mut Random, lines: &mut Vec<Line>, job: &Job) {
     insert_fill(random, lines, |_| [column, row, amount]);
 }
 
-/// One square more than a tile can take; if possible one that it could take if
-/// the narrower of the gaps served both kinds.
+/// One square more than a tile can take; often one that it could take if the
+/// narrower of the gaps served both kinds, or where round corners leave some room.
 fn too_much(random: &mut Random, job: &Job) -> [u64; 3] {
     let fillable = fast::fillable_areas(job);
     let narrower = job.gap.min(job.dummy_gap);
@@ -279,11 +280,14 @@ fn too_much(random: &mut Random, job: &Job) -> [u64; 3] {
         ..job.clone()
     });
     let gains = |&tile: &usize| with_one_gap[tile] > fillable[tile];
-    let gaining: Vec<usize> = (0..fillable.len()).filter(gains).collect();
-    let tile = if gaining.is_empty() {
+    let mut telling: Vec<usize> = (0..fillable.len()).filter(gains).collect();
+    if telling.is_empty() || random.one_in(2) {
+        telling.extend(tiles_at_corners(job, &fillable));
+    }
+    let tile = if telling.is_empty() {
         random.index(fillable.len())
     } else {
-        random.pick(&gaining)
+        random.pick(&telling)
     };
     let tiles = job.tiles();
     [tile as u64 % tiles, tile as u64 / tiles, fillable[tile] + 1]

@@ -1,5 +1,11 @@
 //! The heaviest legal jobs, and random ones of their size.
+//!
+//! Their fills are mostly what a tile can take for sure, so that a unit which is
+//! more careful at corners accepts them too and can be timed beside this one.
 
+mod gaps;
+
+use super::corners::cautious_areas;
 use super::kinds::{drawn, of_random_kinds};
 use super::line::{bytes_of, lines_of, Line};
 use super::random::Random;
@@ -45,6 +51,12 @@ pub fn large_jobs() -> Vec<LargeJob> {
         named("filled wholly", filled_wholly()),
         named("bars and dummies", bars_and_dummies()),
         named("gaps that differ", gaps_that_differ()),
+        named("gap of 0", gaps::around_different_sides(0)),
+        named("gap of 100", gaps::around_different_sides(100)),
+        named("gap of 1,500", gaps::around_short_sides(1500)),
+        named("gap of 8,000", gaps::around_a_diagonal(8000)),
+        named("gap of 65,535", gaps::around_a_circle(65_535)),
+        named("single tile", gaps::in_a_single_tile(1500)),
     ]
 }
 
@@ -100,7 +112,7 @@ fn different_sides() -> Job {
     let mut job = bare_job(1285, 51, 16);
     (job.gap, job.dummy_gap) = (100, 100);
     job.shapes = drawn(grid_of_different_sides(&mut random, job.size, 16));
-    job.fills = fast::fillable_areas(&job);
+    job.fills = cautious_areas(&job);
     job
 }
 
@@ -185,23 +197,28 @@ fn most_tiles() -> Job {
         *x2 = *x1 + 500;
     }
     job.shapes = drawn(boxes);
-    let fillable = fast::fillable_areas(&job);
-    job.fills = fillable.into_iter().map(|most| most.min(7)).collect();
+    let sure = cautious_areas(&job);
+    job.fills = sure.into_iter().map(|most| most.min(7)).collect();
     job
 }
 
-/// Forbidden ground that overlaps much.
-fn wide_gaps() -> Job {
-    let mut random = Random::new(4);
-    let mut job = bare_job(1023, MOST_TILES, 64);
-    (job.gap, job.dummy_gap) = (1200, 1200);
-    let mut boxes = grid_of_different_sides(&mut random, job.size, 16);
+/// The boxes with sides of 300 at most.
+fn narrowed(random: &mut Random, mut boxes: Vec<[u64; 4]>) -> Vec<[u64; 4]> {
     for [x1, y1, x2, y2] in &mut boxes {
         *x2 = *x1 + 1 + random.below(300);
         *y2 = *y1 + 1 + random.below(300);
     }
-    job.shapes = drawn(boxes);
-    job.fills = fast::fillable_areas(&job);
+    boxes
+}
+
+/// Barred ground around each shape, much wider than itself.
+fn wide_gaps() -> Job {
+    let mut random = Random::new(4);
+    let mut job = bare_job(1023, MOST_TILES, 64);
+    (job.gap, job.dummy_gap) = (1200, 1200);
+    let boxes = grid_of_different_sides(&mut random, job.size, 16);
+    job.shapes = drawn(narrowed(&mut random, boxes));
+    job.fills = cautious_areas(&job);
     job
 }
 
@@ -222,7 +239,7 @@ fn single_squares() -> Job {
         (*x2, *y2) = (*x1 + 1, *y1 + 1);
     }
     job.shapes = drawn(boxes);
-    job.fills = fast::fillable_areas(&job);
+    job.fills = cautious_areas(&job);
     job
 }
 
@@ -258,11 +275,10 @@ fn bars_and_dummies() -> Job {
     with_dummies(bars_and_fills(), 20, 60)
 }
 
-/// Wide gaps to drawn metal and narrower ones to dummies, each tile filled with
-/// all that they leave of it.
+/// Wide gaps to drawn metal and narrower ones to dummies.
 fn gaps_that_differ() -> Job {
     let mut job = with_dummies(wide_gaps(), 1200, 400);
-    job.fills = fast::fillable_areas(&job);
+    job.fills = cautious_areas(&job);
     job
 }
 
@@ -293,14 +309,16 @@ pub fn large_job(random: &mut Random) -> Vec<u8> {
     within_limit(&job)
 }
 
-/// An amount for some of the tiles.
+/// An amount for some of the tiles, often all that the tile can take.
 fn large_fills(random: &mut Random, fillable: &[u64]) -> Vec<u64> {
     let share = random.pick(&[0, 10, 50, 100]);
     let mut amount = |&most: &u64| {
-        if random.percent(share) {
-            random.below(most + 1)
-        } else {
+        if !random.percent(share) {
             0
+        } else if random.one_in(2) {
+            most
+        } else {
+            random.below(most + 1)
         }
     };
     fillable.iter().map(&mut amount).collect()

@@ -18,6 +18,14 @@ impl Line {
         Line::Shape(Shape { kind, corners })
     }
 
+    /// Corners of a shape's line.
+    pub(super) fn corners(&self) -> Option<[u64; 4]> {
+        match self {
+            Line::Shape(shape) => Some(shape.corners),
+            _ => None,
+        }
+    }
+
     fn text(&self) -> String {
         match self {
             Line::Head([n, w, r, b, l, u, e, v], dummy_gap) => {

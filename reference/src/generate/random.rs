@@ -1,6 +1,7 @@
 //! A small deterministic source of random numbers (splitmix64).
 
 /// Numbers that follow from a seed.
+#[derive(Clone)]
 pub struct Random(u64);
 
 impl Random {

@@ -33,21 +33,21 @@ pub fn small_lines(random: &mut Random) -> Vec<Line> {
     job.shapes = of_random_kinds(random, boxes);
     job.fills = fills(random, &fast::fillable_areas(&job));
     choose_bounds(random, &mut job);
-    let mut lines = lines_of(&job);
-    let fills = 1 + job.shapes.len()..lines.len() - 1;
-    random.shuffle(&mut lines[fills]);
+    let mut lines = lines_in_any_order(random, &job);
     if random.one_in(4) {
         state_dummy_gap(&mut lines[0], job.dummy_gap);
     }
     lines
 }
 
+/// A gap. From 4 on round corners leave squares that square ones would not.
 fn gap(random: &mut Random) -> u64 {
-    match random.below(8) {
+    match random.below(10) {
         0..=2 => 0,
         3..=4 => 1,
         5 => 2,
-        6 => random.between(3, LARGEST_SIDE),
+        6..=7 => random.between(4, 9),
+        8 => random.between(3, LARGEST_SIDE),
         _ => random.pick(&[27, 28, 1000, 65_535]),
     }
 }
@@ -61,6 +61,14 @@ fn dummy_gap(random: &mut Random, gap_to_drawn: u64) -> u64 {
         4 => gap_to_drawn.saturating_sub(random.between(1, 2)),
         _ => gap(random),
     }
+}
+
+/// The lines of a job, its fills in random order.
+pub(super) fn lines_in_any_order(random: &mut Random, job: &Job) -> Vec<Line> {
+    let mut lines = lines_of(job);
+    let fills = 1 + job.shapes.len()..lines.len() - 1;
+    random.shuffle(&mut lines[fills]);
+    lines
 }
 
 /// Spells the head with both gaps, also where one would do.
@@ -121,11 +129,17 @@ fn boxes(random: &mut Random, size: u64) -> Vec<[u64; 4]> {
     boxes
 }
 
-/// Boxes dropped at random, those that overlap left out.
 fn scattered(random: &mut Random, size: u64) -> Vec<[u64; 4]> {
-    let mut boxes: Vec<[u64; 4]> = Vec::new();
     let longest = random.between(1, size);
-    for _ in 0..random.between(1, 20) {
+    let count = random.between(1, 20);
+    dropped(random, size, count, longest)
+}
+
+/// So many boxes with sides up to this length, dropped at random, those that
+/// overlap left out.
+pub(super) fn dropped(random: &mut Random, size: u64, count: u64, longest: u64) -> Vec<[u64; 4]> {
+    let mut boxes: Vec<[u64; 4]> = Vec::new();
+    for _ in 0..count {
         let (x, y) = (random.below(size), random.below(size));
         let width = random.between(1, longest.min(size - x));
         let height = random.between(1, longest.min(size - y));
@@ -176,7 +190,7 @@ fn slice(random: &mut Random, piece: [u64; 4], pieces: &mut Vec<[u64; 4]>) {
 }
 
 /// An amount for some of the tiles, often all that the tile can take.
-fn fills(random: &mut Random, fillable: &[u64]) -> Vec<u64> {
+pub(super) fn fills(random: &mut Random, fillable: &[u64]) -> Vec<u64> {
     let share = random.pick(&[0, 20, 60, 100]);
     let greedy = random.pick(&[0, 30, 100]);
     let mut amount = |&most: &u64| {
@@ -192,7 +206,7 @@ fn fills(random: &mut Random, fillable: &[u64]) -> Vec<u64> {
 }
 
 /// Bounds anywhere, or at the extreme loads so that each verdict is near.
-fn choose_bounds(random: &mut Random, job: &mut Job) {
+pub(super) fn choose_bounds(random: &mut Random, job: &mut Job) {
     (job.lower, job.upper) = match random.below(8) {
         0 => (0, 10_000),
         1 => (random.below(10_001), random.below(10_001)),

@@ -1,6 +1,5 @@
 //! What the tests of coverage share.
 
-use reference::outcome::{Side, Verdict};
 use std::collections::BTreeMap;
 
 /// How often each thing was seen.
@@ -29,18 +28,5 @@ impl Counts {
             .collect();
         println!("{:#?}", self.0);
         assert!(missing.is_empty(), "not seen {least} times: {missing:?}");
-    }
-}
-
-/// A verdict without its place.
-pub(crate) fn verdict_name(verdict: Verdict) -> String {
-    let side = |side| match side {
-        Side::Over => "over",
-        Side::Under => "under",
-    };
-    match verdict {
-        Verdict::Safe => "safe".to_string(),
-        Verdict::Broken(named) => format!("broken {}", side(named.side)),
-        Verdict::Undecided(named) => format!("undecided {}", side(named.side)),
     }
 }

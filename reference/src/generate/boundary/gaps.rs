@@ -4,7 +4,7 @@ use super::{accepted, bytes_of, refused, BoundaryJob, Line};
 use crate::job::Kind;
 
 /// The gap and the dummy gap as a head states them.
-type Gaps = (u64, Option<u64>);
+pub(super) type Gaps = (u64, Option<u64>);
 
 /// A layout of this side in one tile, with these gaps and shapes and so much fill.
 fn filled(side: u64, (gap, dummy_gap): Gaps, shapes: &[Line], fill: u64) -> Vec<u8> {
@@ -14,13 +14,14 @@ fn filled(side: u64, (gap, dummy_gap): Gaps, shapes: &[Line], fill: u64) -> Vec<
 }
 
 /// As much fill as the tile can take, if it can take any, and one more.
-fn around_the_room(
+pub(super) fn around_the_room(
     side: u64,
     gaps: Gaps,
     shapes: &[Line],
     room: u64,
 ) -> impl Iterator<Item = BoundaryJob> {
-    let name = |fill| format!("gaps {gaps:?}, fill {fill} of {room}");
+    let corners: Vec<[u64; 4]> = shapes.iter().filter_map(Line::corners).collect();
+    let name = |fill| format!("{corners:?} of {side}, gaps {gaps:?}, fill {fill} of {room}");
     let job = |fill| filled(side, gaps, shapes, fill);
     let all = (room > 0).then(|| accepted(name(room), job(room)));
     let line = 2 + shapes.len() as u32;
@@ -65,11 +66,12 @@ pub(super) fn decided_by_either() -> Vec<BoundaryJob> {
 
 /// The gap to a unit square in the corner of the widest layout, and what it
 /// leaves to fill. The other gap does not matter, however wide.
-const WIDE_ROOM: [[u64; 2]; 4] = [
+const WIDE_ROOM: [[u64; 2]; 5] = [
     [0, 65_535 * 65_535 - 1],
-    [65_533, 65_535 * 65_535 - 65_534 * 65_534],
-    [65_534, 0],
-    [65_535, 0],
+    [46_341, 2_608_064_053],
+    [65_533, 921_689_167],
+    [65_534, 921_586_310],
+    [65_535, 921_484_167],
 ];
 
 pub(super) fn wide() -> Vec<BoundaryJob> {
