@@ -7,4 +7,5 @@ pub mod Fill
 pub mod Printing
 pub mod Files
 pub mod Dummies
+pub mod Corners
 pub mod Table

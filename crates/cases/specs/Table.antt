@@ -8,6 +8,7 @@ use Rattle.cases.specs.Zoom.{zoomRows}
 use Rattle.cases.specs.Fill.{fillRows}
 use Rattle.cases.specs.Files.{fileRows}
 use Rattle.cases.specs.Dummies.{dummyRows}
+use Rattle.cases.specs.Corners.{cornerRows}
 
 abbrev pub table : List Row
-table = areaRows ++ exactRows ++ zoomRows ++ fillRows ++ fileRows ++ dummyRows
+table = areaRows ++ exactRows ++ zoomRows ++ fillRows ++ fileRows ++ dummyRows ++ cornerRows

@@ -8,5 +8,6 @@ pub mod Faulting
 pub mod Lines
 pub mod Files
 pub mod Widening
+pub mod StillAccepted
 pub mod SameGaps
 pub mod Accepted

@@ -3,4 +3,5 @@ pub mod Faults
 pub mod File
 pub mod Acceptance
 pub mod Gaps
+pub mod SquareCorners
 pub mod Held

@@ -1,18 +1,19 @@
 -- Shapes of both kinds: areas and counts are those of each kind together, and a placement stays clear of every shape.
-use Prim.Native.Nat.{ℕ, _+_}
+use Prim.Native.Nat.{ℕ, suc, _+_}
 use mathlib.Core.Path.{_≡_, refl, sym, ap₂, _∙_}
 use mathlib.Core.Bool.{Bool, true, false, not, _&&_, _||_}
 use mathlib.Core.List.{List, [], _∷_}
 use mathlib.Core.Logic.{_⊎_, inl, inr}
 use native.Mathlib.Omega.{arith}
 use lib.Dec.{T}
+use borrow.Author.Tests.{leb-true}
 use Rattle.laws.proofs.Tests.{T-and, T-both, T-left, T-right, T-either}
 use Rattle.geometry.specs.declared.Rect.{Rect}
 use Rattle.geometry.specs.Count.{rectSum}
 use Rattle.geometry.specs.Layout.{holds, covered, coveredArea, Disjoint}
 use Rattle.geometry.specs.Overlaps.{overlap}
 use Rattle.geometry.proofs.Overlaps.{overlap-is-area}
-use Rattle.spacing.specs.Eligible.{clearOf, clearOfAll, rectsIn, eligible}
+use Rattle.spacing.specs.Eligible.{gapBetween, square, clearOf, clearOfAll, rectsIn, eligible}
 use Rattle.forms.specs.declared.Gap.{Gap}
 use Rattle.forms.specs.declared.Kind.{Kind}
 use Rattle.forms.specs.declared.Kind.the-variants.{Drawn, Dummy}
@@ -84,7 +85,11 @@ eligible-clear g {s = s} (first {ss = ss}) x y e =
     let rest = keepouts g ss in
     let k = T-both (not (holds (s .rect) x y || covered (rectsIn rest) x y)) (clearOf (keepoutOf g s) x y && clearOfAll rest x y) e in
     let c = T-both (clearOf (keepoutOf g s) x y) (clearOfAll rest x y) (k .1) in
-    record { outside = outside-all (holds (s .rect) x y) (covered (rectsIn rest) x y) (k .0) .0; away = told (clearOf (keepoutOf g s) x y) (c .0) }
+    record {
+      outside = outside-all (holds (s .rect) x y) (covered (rectsIn rest) x y) (k .0) .0;
+      away = leb-true (square (keepoutOf g s .gap))
+          (square (gapBetween x (suc x) (s .rect .x1) (s .rect .x2)) + square (gapBetween y (suc y) (s .rect .y1) (s .rect .y2))) (told (clearOf (keepoutOf g s) x y) (c .0));
+    }
 eligible-clear g (later {t = t} {ss = ss} a) x y e =
     let rest = keepouts g ss in
     let k = T-both (not (holds (t .rect) x y || covered (rectsIn rest) x y)) (clearOf (keepoutOf g t) x y && clearOfAll rest x y) e in

@@ -27,13 +27,14 @@ use Rattle.jobfile.specs.Acceptance.{formsText, LineFault, spelled, unspelled, 
 use Rattle.jobfile.specs.Gaps.{outcomeWith, fileWith}
 use Rattle.jobfile.proofs.Files.{acceptance}
 use Rattle.jobfile.proofs.SameGaps.{gaps-decide}
+use Rattle.jobfile.proofs.StillAccepted.{still-accepted}
 use Rattle.unit.specs.declared.Reply.{Reply}
 use Rattle.unit.specs.declared.Reply.the-variants.{Accepted, Refused}
 use Rattle.unit.specs.declared.render.Rendered.{Rendered}
 use Rattle.unit.specs.Answering.{answerFor, answerOf, textOf}
 use Rattle.unit.specs.Whole.{replyTo, bufferAfter, replyFor, bufferFor, replyNumber, replyValue, codeOf, printedOf, printedFor}
 use Rattle.unit.specs.Room.{answerRoom}
-use Rattle.unit.specs.Guarantee.{Guarantee, Reported, PrintedAlike}
+use Rattle.unit.specs.Guarantee.{Guarantee, Reported, PrintedAlike, AnsweredAsBefore}
 use Rattle.unit.specs.Rendering.{WrittenIn, asRendered, renderedIn, Rendering}
 use Rattle.unit.proofs.Accepting.{promised, refused-positive, found-accepted}
 
@@ -244,3 +245,8 @@ with-printed g (accepted st) = refl
 pub printed-alike : PrintedAlike
 printed-alike h g g′ rest k k′ same =
     ap printedOf (gaps-decide unitLimits h g g′ rest k k′ same) ∙ with-printed g′ (outcomeOf unitLimits (fileWith h g rest))
+
+-- ---- files from before corner gaps were round
+
+pub answered-as-before : AnsweredAsBefore
+answered-as-before file st a = ap printedOf (still-accepted unitLimits file st a)

@@ -1,5 +1,5 @@
 -- Start here: what a buyer may rely on, for every file and every lent buffer. The contracts of src/lib.rt cite it, so it binds the code; the last
--- definition compares two files, and proofs/Replying.antt proves it.
+-- two definitions compare files, and proofs/Replying.antt proves them.
 --
 -- Determined by the definitions, but nothing more is promised of it: "undecided" says neither that the fill is safe nor that some placement
 -- breaks a bound, and the start that it names need not be the worst, nor need the one that "broken" names; kept counts starts and not windows,
@@ -14,11 +14,13 @@ use Rattle.buffers.specs.Written.{Front}
 use Rattle.forms.specs.declared.Gap.{Gap}
 use Rattle.forms.specs.declared.Head.{Head}
 use Rattle.forms.specs.Limits.{unitLimits}
+use Rattle.forms.specs.Shapes.{rectangles}
 use Rattle.jobfile.specs.Faults.{Standing}
 use Rattle.jobfile.specs.Acceptance.{AcceptedFile, Acceptance}
 use Rattle.jobfile.specs.Gaps.{fileWith, MayBegin, SameGaps}
+use Rattle.jobfile.specs.SquareCorners.{SquarelyAccepted}
 use Rattle.unit.specs.declared.Reply.{Reply}
-use Rattle.unit.specs.Answering.{answerOf}
+use Rattle.unit.specs.Answering.{answerOf, answerFor, textOf}
 use Rattle.unit.specs.Whole.{replyFor, bufferFor, replyNumber, replyValue, printedFor}
 use Rattle.unit.specs.Room.{answerRoom}
 use Rattle.unit.specs.Promise.{Promises}
@@ -50,3 +52,9 @@ pub record Reported (file before : List ℕ) (n : ℕ) (after : List ℕ) : Type
 abbrev pub PrintedAlike : Type 0
 PrintedAlike = (h : Head) (g g′ : Gap) (rest : List ℕ) → MayBegin unitLimits h g rest → MayBegin unitLimits h g′ rest → SameGaps unitLimits g g′ rest →
     printedFor (fileWith h g′ rest) ≡ printedFor (fileWith h g rest)
+
+-- document 02, request 6: a file that was accepted while corner gaps were square is answered by what stood then: head, rectangles and amounts. No
+-- fillable area enters an answer, so all of it, the verdict too, is what it was
+abbrev pub AnsweredAsBefore : Type 0
+AnsweredAsBefore = (file : List ℕ) (st : Standing) → SquarelyAccepted unitLimits file st →
+    printedFor file ≡ textOf (answerFor (st .head) (rectangles (st .shapes)) (st .amounts))

@@ -19,7 +19,7 @@ use Rattle.zoom.specs.Run.{lastLevel, levelStep, levelAt, lowEnd, highEnd, Brac
 use Rattle.spacing.specs.declared.Keepout.{Keepout}
 use Rattle.fill.specs.declared.Bound.{Bound}
 use Rattle.fill.specs.declared.Verdict.{Verdict}
-use Rattle.spacing.specs.Eligible.{clearOf}
+use Rattle.spacing.specs.Eligible.{gapBetween, square}
 use Rattle.fill.specs.Judge.{boundNumber, verdictNumbers}
 use Rattle.fill.specs.Placement.{Placement, placedSum, keeps}
 use Rattle.forms.specs.declared.Kind.{Kind}
@@ -158,10 +158,11 @@ pub data Among (s : Shape) : List Shape → Type 0 where
   first : {ss : List Shape} → Among s (s ∷ ss)
   later : {t : Shape} {ss : List Shape} → Among s ss → Among s (t ∷ ss)
 
--- the unit square (x, y) lies outside a shape, and across or down at least the shape's gap away from it
+-- the unit square (x, y) lies outside a shape, and at least the shape's gap away from it, by straight distance
 pub record Clear (k : Keepout) (x y : ℕ) : Type 0 where
   pub outside : holds (k .rect) x y ≡ false
-  pub away : clearOf k x y ≡ true
+  pub away : square (k .gap)
+      ≤ square (gapBetween x (suc x) (k .rect .x1) (k .rect .x2)) + square (gapBetween y (suc y) (k .rect .y1) (k .rect .y2))
 
 -- the fill, whichever eligible unit squares it takes: after "safe" every position keeps both bounds, on the tile grid or off it; after
 -- "broken" the named window is a position and breaks the bound named; there is at least one placement; and every one stays clear of all shapes, by B
