@@ -4,6 +4,7 @@ pub mod Distances
 pub mod Outside
 pub mod Rounded
 pub mod RegionTables
+pub mod Gains
 pub mod Places
 pub mod NearParts
 pub mod Discs

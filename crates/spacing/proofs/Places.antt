@@ -3,19 +3,25 @@ use Prim.Native.Nat.{ℕ, zero, suc, _+_, _-_, _*_, _/_, _≤_, _<_}
 use mathlib.Core.Path.{_≡_, refl, sym, ap, ap₂, _∙_, subst}
 use mathlib.Core.Bool.{Bool, true, false, not, _||_}
 use mathlib.Core.List.{List, [], _∷_, _++_, append-nil}
+use mathlib.Core.Logic.{_⊎_, inl, inr}
 use native.Mathlib.Numerals.{add-one}
 use native.Mathlib.Omega.{arith}
 use lib.ListN.{length, take, drop, getD, set, length-set, drop-of-length-le}
 use lib.Seq.{take-suc-set, length-take-le, drop-cons, append-snoc}
+use lib.Dec.{eqb}
+use borrow.Author.Tests.{eq-eqb, not-true}
+use Rattle.laws.proofs.Tests.{below-or-last, both, true-false}
 use Rattle.geometry.specs.declared.Rect.{Rect}
 use Rattle.geometry.specs.Count.{one-if}
 use Rattle.geometry.proofs.Counting.{box-cong}
 use Rattle.spacing.specs.declared.Region.{Region}
 use Rattle.spacing.specs.declared.Part.{Part}
 use Rattle.spacing.specs.Free.{regionNumbers, regionAt, holdsSquare, placesFrom, placesOf, placesIn, heldBy, freeBy, freeIn, AgreeOn, Serves}
-use Rattle.spacing.specs.Counting.{isNear, coversBox, Listed, Lists, Countable, Divisible, Enough}
+use Rattle.spacing.specs.Counting.{isNear, coversBox, isIdle, isSpare, Listed, Lists, Countable, Divisible, Enough}
 use Rattle.spacing.specs.Sizes.{FullBox, SmallTable, liveRoom}
+use Rattle.spacing.proofs.SmallRegions.{region-small}
 use Rattle.spacing.proofs.Distances.{none-held, all-held, some-held}
+use Rattle.spacing.proofs.Gains.{idle-held}
 
 -- ---- the places of a part
 
@@ -147,70 +153,127 @@ listed-more t [] p l h (suc i) k = absurd (omega arith)
 listed-more t (a ∷ ps) p l h zero k = l zero (omega arith)
 listed-more t (a ∷ ps) p l h (suc i) k = listed-more t ps p (λ j q. l (suc j) (omega arith)) h i (omega arith)
 
--- of the places from i on none is looked at yet
-pub record KeptSoFar (t ps own : List ℕ) (b : Rect) (n i : ℕ) : Type 0 where
+-- a region of a list holds what it holds for the list
+held-at : (t ps : List ℕ) (i x y : ℕ) → i < length ps → holdsSquare (regionAt t (getD ps i 0)) x y ≡ true → heldBy t ps x y ≡ true
+unfolding heldBy
+held-at t [] i x y h e = absurd (omega arith)
+held-at t (p ∷ ps) zero x y h e = ap (λ (u : Bool). u || heldBy t ps x y) e
+held-at t (p ∷ ps) (suc i) x y h e =
+    ap (λ (u : Bool). holdsSquare (regionAt t p) x y || u) (held-at t ps i x y (omega arith) e) ∙ or-true (holdsSquare (regionAt t p) x y)
+
+-- what implies a may be left out beside it; and what implies l, beside l
+or-absorbs : (a l : Bool) → (l ≡ true → a ≡ true) → (a || l) ≡ a
+or-absorbs a false h = or-false a
+or-absorbs a true h = or-true a ∙ sym (h refl)
+
+or-drops : (a r d l : Bool) → (r ≡ true → l ≡ true) → (a || d || l) ≡ (a || (r || d) || l)
+or-drops a false d l h = refl
+or-drops a true d l h = ap (λ (u : Bool). a || d || u) (h refl) ∙ or-true (a || d) ∙ sym (ap (λ (u : Bool). u || l) (or-true a))
+
+-- of the places from i on none is looked at yet. What is made idle by the region at place `lead` is left out, so this one counts along; once it
+-- was looked at, the list holds what it holds
+pub record KeptSoFar (t ps own : List ℕ) (lead : ℕ) (b : Rect) (n i : ℕ) : Type 0 where
   pub within : i ≤ length ps
   pub few : n ≤ i
   pub room : length own ≡ liveRoom
   pub listed : Listed t (take n own)
-  pub same : AgreeOn b (λ x y. heldBy t (take n own) x y || heldBy t (drop i ps) x y) (heldBy t ps)
+  pub same : AgreeOn b (λ x y. heldBy t (take n own) x y || heldBy t (drop i ps) x y || holdsSquare (regionAt t (getD ps lead 0)) x y) (heldBy t ps)
+  pub led : lead < i → (x y : ℕ) → b .x1 ≤ x → x < b .x2 → b .y1 ≤ y → y < b .y2 → holdsSquare (regionAt t (getD ps lead 0)) x y ≡ true →
+      heldBy t (take n own) x y ≡ true
   pub divisible : 0 < n → Divisible b
 
-pub keeping-starts : (t ps own : List ℕ) (b : Rect) → length own ≡ liveRoom → KeptSoFar t ps own b 0 0
-keeping-starts t ps own b h =
+pub keeping-starts : (t ps own : List ℕ) (lead : ℕ) (b : Rect) → length own ≡ liveRoom → lead < length ps → KeptSoFar t ps own lead b 0 0
+keeping-starts t ps own lead b h k =
     record {
       within = omega arith;
       few = omega arith;
       room = h;
-      listed = λ i k. absurd (omega arith);
-      same = λ x y p q r s. ap (λ (u : Bool). u || heldBy t ps x y) (held-none t x y);
-      divisible = λ k. absurd (omega arith);
+      listed = λ i q. absurd (omega arith);
+      same = λ x y p q r s.
+          ap (λ (u : Bool). u || heldBy t ps x y || holdsSquare (regionAt t (getD ps lead 0)) x y) (held-none t x y)
+          ∙ or-absorbs (heldBy t ps x y) (holdsSquare (regionAt t (getD ps lead 0)) x y) (held-at t ps lead x y k);
+      led = λ q. absurd (omega arith);
+      divisible = λ q. absurd (omega arith);
     }
 
-module _ (t ps own : List ℕ) (b : Rect) (n i : ℕ) (z : KeptSoFar t ps own b n i) where
-  pub keeping-ends : length ps ≤ i → Enough t ps own b n
-  keeping-ends h =
+module _ (t ps own : List ℕ) (lead : ℕ) (b : Rect) (n i : ℕ) (z : KeptSoFar t ps own lead b n i) where
+  abbrev leads : (x y : ℕ) → Bool
+  leads x y = holdsSquare (regionAt t (getD ps lead 0)) x y
+
+  pub keeping-ends : lead < length ps → length ps ≤ i → Enough t ps own b n
+  keeping-ends k h =
       record {
         room = z .room;
         within = omega (arith, z .within, z .few);
         listed = z .listed;
         same = λ x y p q r s.
-            sym (ap (λ (l : List ℕ). heldBy t (take n own) x y || heldBy t l x y) (drop-of-length-le ps h)
-            ∙ ap (λ (u : Bool). heldBy t (take n own) x y || u) (held-none t x y)
-            ∙ or-false (heldBy t (take n own) x y))
+            sym (ap (λ (l : List ℕ). heldBy t (take n own) x y || heldBy t l x y || leads x y) (drop-of-length-le ps h)
+            ∙ ap (λ (u : Bool). heldBy t (take n own) x y || u || leads x y) (held-none t x y)
+            ∙ ap (λ (u : Bool). u || leads x y) (or-false (heldBy t (take n own) x y))
+            ∙ or-absorbs (heldBy t (take n own) x y) (leads x y) (z .led (omega arith) x y p q r s))
             ∙ z .same x y p q r s;
         divisible = z .divisible;
       }
 
   module _ (h : i < length ps) (g : Region) (d : g ≡ regionAt t (getD ps i 0)) where
+    abbrev holds-here : (x y : ℕ) → Bool
+    holds-here x y = holdsSquare (regionAt t (getD ps i 0)) x y
+
     -- what is left, at its first place
-    at-next : (x y : ℕ) → heldBy t (drop i ps) x y ≡ (holdsSquare (regionAt t (getD ps i 0)) x y || heldBy t (drop (suc i) ps) x y)
+    at-next : (x y : ℕ) → heldBy t (drop i ps) x y ≡ (holds-here x y || heldBy t (drop (suc i) ps) x y)
     at-next x y = ap (λ (l : List ℕ). heldBy t l x y) (drop-cons ps i 0 h) ∙ held-next t (getD ps i 0) (drop (suc i) ps) x y
 
-    pub keeping-far : (v : Bool) → v ≡ isNear g b → v ≡ false → KeptSoFar t ps own b n (i + 1)
-    keeping-far v e f =
+    -- the region at i is passed over: it holds nothing of the box that the lead does not
+    passed : ((x y : ℕ) → b .x1 ≤ x → x < b .x2 → b .y1 ≤ y → y < b .y2 → holds-here x y ≡ true → leads x y ≡ true) →
+        (lead ≡ i → (x y : ℕ) → b .x1 ≤ x → x < b .x2 → b .y1 ≤ y → y < b .y2 → leads x y ≡ true → ⊥) → KeptSoFar t ps own lead b n (i + 1)
+    passed implied unled =
         record {
           within = omega arith;
           few = omega (arith, z .few);
           room = z .room;
           listed = z .listed;
           same = λ x y p q r s.
-              ap (λ (k : ℕ). heldBy t (take n own) x y || heldBy t (drop k ps) x y) (add-one i)
-              ∙ ap (λ (u : Bool). heldBy t (take n own) x y || u)
-              (sym (at-next x y ∙ ap (λ (u : Bool). u || heldBy t (drop (suc i) ps) x y) (none-held (regionAt t (getD ps i 0)) b (sym (e ∙ ap (λ (m : Region). isNear m b) d) ∙ f) x y p q r s)))
+              ap (λ (k : ℕ). heldBy t (take n own) x y || heldBy t (drop k ps) x y || leads x y) (add-one i)
+              ∙ or-drops (heldBy t (take n own) x y) (holds-here x y) (heldBy t (drop (suc i) ps) x y) (leads x y) (implied x y p q r s)
+              ∙ ap (λ (u : Bool). heldBy t (take n own) x y || u || leads x y) (sym (at-next x y))
               ∙ z .same x y p q r s;
+          led = λ k x y p q r s e. go (below-or-last lead i (omega arith)) x y p q r s e;
           divisible = z .divisible;
         }
+      where
+        go : (lead < i) ⊎ (lead ≡ i) → (x y : ℕ) → b .x1 ≤ x → x < b .x2 → b .y1 ≤ y → y < b .y2 → leads x y ≡ true → heldBy t (take n own) x y ≡ true
+        go (inl k) x y p q r s e = z .led k x y p q r s e
+        go (inr k) x y p q r s e = absurd (unled k x y p q r s e)
+
+    pub keeping-far : (v : Bool) → v ≡ isNear g b → v ≡ false → KeptSoFar t ps own lead b n (i + 1)
+    keeping-far v e f =
+        passed (λ x y p q r s k. absurd (true-false (holds-here x y) k (none x y p q r s)))
+        (λ m x y p q r s k. true-false (holds-here x y) (ap (λ (j : ℕ). holdsSquare (regionAt t (getD ps j 0)) x y) (sym m) ∙ k) (none x y p q r s))
+      where
+        none : (x y : ℕ) → b .x1 ≤ x → x < b .x2 → b .y1 ≤ y → y < b .y2 → holds-here x y ≡ false
+        none = none-held (regionAt t (getD ps i 0)) b (sym (e ∙ ap (λ (m : Region). isNear m b) d) ∙ f)
+
+    pub keeping-spare : (c : Region) (v : Bool) → Countable t ps b → lead < length ps → c ≡ regionAt t (getD ps lead 0) → v ≡ isSpare i lead g c b → v ≡ true →
+        KeptSoFar t ps own lead b n (i + 1)
+    keeping-spare c v w k m e f =
+        passed (λ x y p q r s held. idle-held (regionAt t (getD ps i 0)) (regionAt t (getD ps lead 0)) b (region-small t (getD ps lead 0) (regionAt t (getD ps lead 0)) (w .small) refl) (w .box) idle x y p q r s held)
+        (λ q x y. absurd (true-false (eqb i lead) (eq-eqb i lead (sym q)) (not-true (eqb i lead) (tests .0))))
+      where
+        tests : (not (eqb i lead) ≡ true) × (isIdle g c b ≡ true)
+        tests = both (not (eqb i lead)) (isIdle g c b) (sym e ∙ f)
+
+        idle : isIdle (regionAt t (getD ps i 0)) (regionAt t (getD ps lead 0)) b ≡ true
+        idle = ap₂ (λ (u v : Region). isIdle u v b) (sym d) (sym m) ∙ tests .1
 
     pub keeping-covered : (v : Bool) → v ≡ coversBox g b → v ≡ true → AgreeOn b (heldBy t ps) (λ x y. true)
     keeping-covered v e f x y p q r s =
         sym (z .same x y p q r s)
-        ∙ ap (λ (u : Bool). heldBy t (take n own) x y || u)
+        ∙ ap (λ (u : Bool). heldBy t (take n own) x y || u || leads x y)
         (at-next x y ∙ ap (λ (u : Bool). u || heldBy t (drop (suc i) ps) x y) (all-held (regionAt t (getD ps i 0)) b (sym (e ∙ ap (λ (m : Region). coversBox m b) d) ∙ f) x y p q r s))
-        ∙ or-true (heldBy t (take n own) x y)
+        ∙ ap (λ (u : Bool). u || leads x y) (or-true (heldBy t (take n own) x y))
 
     pub keeping-one : (v w : Bool) → Countable t ps b → v ≡ isNear g b → v ≡ true → w ≡ coversBox g b → w ≡ false →
-        KeptSoFar t ps (set own n (getD ps i 0)) b (n + 1) (i + 1)
+        KeptSoFar t ps (set own n (getD ps i 0)) lead b (n + 1) (i + 1)
     keeping-one v w q e f e′ f′ =
         record {
           within = omega arith;
@@ -218,14 +281,26 @@ module _ (t ps own : List ℕ) (b : Rect) (n i : ℕ) (z : KeptSoFar t ps own b 
           room = length-set own n (getD ps i 0) ∙ z .room;
           listed = subst (Listed t) (sym kept) (listed-more t (take n own) (getD ps i 0) (z .listed) (q .listed i h));
           same = λ x y p q′ r s.
-              ap₂ (λ (l : List ℕ) (m : ℕ). heldBy t l x y || heldBy t (drop m ps) x y) kept (add-one i)
-              ∙ ap (λ (u : Bool). u || heldBy t (drop (suc i) ps) x y)
-              (held-append t (take n own) (getD ps i 0 ∷ []) x y ∙ ap (λ (u : Bool). heldBy t (take n own) x y || u) (held-one t (getD ps i 0) x y))
-              ∙ sym (or-assoc (heldBy t (take n own) x y) (holdsSquare (regionAt t (getD ps i 0)) x y) (heldBy t (drop (suc i) ps) x y))
-              ∙ ap (λ (u : Bool). heldBy t (take n own) x y || u) (sym (at-next x y))
+              ap₂ (λ (u : Bool) (m : ℕ). u || heldBy t (drop m ps) x y || leads x y) (more x y) (add-one i)
+              ∙ ap (λ (u : Bool). u || leads x y) (sym (or-assoc (heldBy t (take n own) x y) (holds-here x y) (heldBy t (drop (suc i) ps) x y)))
+              ∙ ap (λ (u : Bool). heldBy t (take n own) x y || u || leads x y) (sym (at-next x y))
               ∙ z .same x y p q′ r s;
+          led = λ k x y p q′ r s o. more x y ∙ go (below-or-last lead i (omega arith)) x y p q′ r s o;
           divisible = λ k. some-held g b (q .box .across) (q .box .up) (sym e ∙ f) (sym e′ ∙ f′);
         }
       where
         kept : take (n + 1) (set own n (getD ps i 0)) ≡ take n own ++ (getD ps i 0 ∷ [])
         kept = ap (λ (m : ℕ). take m (set own n (getD ps i 0))) (add-one n) ∙ take-suc-set own n (getD ps i 0) (omega (arith, z .few, z .room, q .few))
+
+        more : (x y : ℕ) → heldBy t (take (n + 1) (set own n (getD ps i 0))) x y ≡ (heldBy t (take n own) x y || holds-here x y)
+        more x y =
+            ap (λ (l : List ℕ). heldBy t l x y) kept
+            ∙ held-append t (take n own) (getD ps i 0 ∷ []) x y
+            ∙ ap (λ (u : Bool). heldBy t (take n own) x y || u) (held-one t (getD ps i 0) x y)
+
+        go : (lead < i) ⊎ (lead ≡ i) → (x y : ℕ) → b .x1 ≤ x → x < b .x2 → b .y1 ≤ y → y < b .y2 → leads x y ≡ true →
+            (heldBy t (take n own) x y || holds-here x y) ≡ true
+        go (inl k) x y p q′ r s o = ap (λ (u : Bool). u || holds-here x y) (z .led k x y p q′ r s o)
+        go (inr k) x y p q′ r s o =
+            ap (λ (u : Bool). heldBy t (take n own) x y || u) (ap (λ (j : ℕ). holdsSquare (regionAt t (getD ps j 0)) x y) (sym k) ∙ o)
+            ∙ or-true (heldBy t (take n own) x y)

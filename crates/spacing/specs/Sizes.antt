@@ -59,6 +59,13 @@ pub record PartRoom (p : Part) (room : ℕ) : Type 0 where
 abbrev pub longest : ℕ
 longest = 4 * widest
 
+-- a span a to b whose ends are held against the near ends c and e of others
+pub record SmallSpans (a b c e : ℕ) : Type 0 where
+  pub order : a ≤ b
+  pub end : b ≤ widest
+  pub first : c ≤ 2 * widest
+  pub second : e ≤ 2 * widest
+
 -- a box of steps that are counted, and the reach: their squares are formed
 pub record SmallSteps (d : Rect) (reach : ℕ) : Type 0 where
   pub up : d .y1 ≤ d .y2

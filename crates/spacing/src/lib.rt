@@ -11,6 +11,7 @@ ghost use Rattle.spacing.specs.Sizes.{SmallBox, SmallTable};
 
 mod cuts;
 mod free;
+mod idle;
 mod live;
 mod near;
 mod parts;
@@ -86,7 +87,10 @@ pub fn fillable(regions: &[u64], near: Part, b: Rect) -> u64
     }
     let mut places = [0u16; live::LIVE_ROOM];
     let count = live::list_places(near, &mut places);
-    free::free_in(regions, &places[..count], b)
+    if count == 0 {
+        return free::size(b);
+    }
+    free::free_in(regions, &places[..count], 0, b)
 }
 
 // A part of a table that is enough for a box and for every box inside: from the

@@ -3,6 +3,7 @@
 use crate::Kept;
 use crate::Part;
 use crate::Region;
+use crate::idle::is_spare;
 use crate::near::covers_box;
 use crate::near::is_near;
 use crate::regions::REGION_NUMBERS;
@@ -44,12 +45,21 @@ pub(crate) fn listed_region(regions: &[u64], places: &[u16], i: usize) -> Region
     region_at(regions, places[i] as usize)
 }
 
-// Lists the places of the regions that come near a box, if none covers it.
-pub(crate) fn keep_near(regions: &[u64], places: &[u16], b: Rect, own: &mut [u16]) -> Kept
+// Lists the places of the regions that come near a box and that the one at place
+// `lead` does not make idle, if none covers the box.
+pub(crate) fn keep_near(
+    regions: &[u64],
+    places: &[u16],
+    lead: usize,
+    b: Rect,
+    own: &mut [u16],
+) -> Kept
     requires { ⌜ Countable (now regions) (now places) b ⌝ }
+    requires { ⌜ lead < length (now places) ⌝ }
     requires { ⌜ length (now own) ≡ liveRoom ⌝ }
     ensures { λ r. ⌜ Keeps (now (regions .entry)) (now (places .entry)) (now (own .exit)) b r ⌝ }
 {
+    let c = listed_region(regions, places, lead);
     let mut n = 0;
     let mut i = 0;
     while i < places.len() {
@@ -58,9 +68,13 @@ pub(crate) fn keep_near(regions: &[u64], places: &[u16], b: Rect, own: &mut [u16
             if covers_box(r, b) {
                 return Kept::Covered;
             }
-            own[n] = places[i];
-            n += 1;
-            i += 1;
+            if is_spare(i, lead, r, c, b) {
+                i += 1;
+            } else {
+                own[n] = places[i];
+                n += 1;
+                i += 1;
+            }
         } else {
             i += 1;
         }

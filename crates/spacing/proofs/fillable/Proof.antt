@@ -2,10 +2,11 @@
 use mathlib.Core.Path.{refl, _∙_}
 use native.Mathlib.Omega.{arith}
 use borrow.Author.Needs.{needs}
+use Rattle.spacing.specs.Sizes.{FullBox}
 use Rattle.spacing.proofs.Boxes.{full-box}
-use Rattle.spacing.proofs.Settling.{empty-free}
 use Rattle.spacing.proofs.RegionTables.{regions-fillable}
 use Rattle.spacing.proofs.Places.{lists-length, lists-countable, lists-free}
+use Rattle.spacing.proofs.Settling.{empty-free, lists-none}
 use Rattle.spacing.proofs.fillable.Statement.{statement}
 use Rattle.spacing.proofs.fillable.Tie as tie
 
@@ -20,21 +21,34 @@ list-places-requires c κs =
     let s = c .before .before .before .before in
     record { order = s .pre .1 .1 .order; few = omega (arith, s .pre .1 .1 .within, s .pre .0 .few); enough = refl }
 
-free-in-requires : tie.Need-free-in-requires
-free-in-requires c κs =
-    let s = c .before .before .before .before .before .before .before in
-    let full = full-box (s .args .b) _ (c .before .before .before .before .before .is-empty .ensures) (c .before .before .before .before .if1 .left) in
-    lists-countable _ _ _ _ _ (s .pre .0) (s .pre .1 .1) (c .before .before .list-places .ensures)
-    (record { across = full .0; up = full .1; right = s .pre .1 .0 .right; high = s .pre .1 .0 .high })
+-- the box has squares
+full : (c : tie.Else1) → FullBox (c .before .before .before .args .b)
+full c =
+    let s = c .before .before .before in
+    let sides = full-box (s .args .b) _ (c .before .is-empty .ensures) (c .if1 .left) in
+    record { across = sides .0; up = sides .1; right = s .pre .1 .0 .right; high = s .pre .1 .0 .high }
 
 returns-2 : tie.Need-returns-2
 returns-2 c =
     let s = c .before .before .before .before .before .before .before .before in
-    let free = lists-free _ (s .args .b) _ _ _ (s .pre .0) (s .pre .1 .1) (c .before .before .before .list-places .ensures) _ (c .free-in .ensures) in
+    let l = c .before .before .before .list-places in
+    let free = lists-none _ (s .args .b) _ _ _ (s .pre .0) (s .pre .1 .1) (l .ensures) _ (c .before .if2 .taken) (c .size .ensures) in
+    (free, λ ks e. free ∙ regions-fillable (s .args .regions .now) ks (s .args .b) e)
+
+free-in-requires : tie.Need-free-in-requires
+free-in-requires c κs =
+    let s = c .before .before .before .before .before .before .before .before in
+    let l = c .before .before .before .list-places .ensures in
+    (lists-countable _ _ _ _ _ (s .pre .0) (s .pre .1 .1) l (full (c .before .before .before .before .before)), omega (arith, lists-length _ _ _ l, c .before .if2 .left))
+
+returns-3 : tie.Need-returns-3
+returns-3 c =
+    let s = c .before .before .before .before .before .before .before .before .before in
+    let free = lists-free _ (s .args .b) _ _ _ (s .pre .0) (s .pre .1 .1) (c .before .before .before .before .list-places .ensures) _ (c .free-in .ensures) in
     (free, λ ks e. free ∙ regions-fillable (s .args .regions .now) ks (s .args .b) e)
 
 pub fillable-spec : {M : Type 1} → statement M
 fillable-spec =
     tie.close
-    (tie.spec (λ c κs. search needs) returns (λ c. refl) list-places-requires (λ c. c .before .list-places .ensures .within)
-    (λ c. lists-length _ _ _ (c .before .before .list-places .ensures)) free-in-requires returns-2)
+    (tie.spec (λ c κs. search needs) returns (λ c. refl) list-places-requires (λ c κs. full (c .before .before .before .before)) returns-2
+    (λ c. c .before .before .list-places .ensures .within) (λ c. lists-length _ _ _ (c .before .before .before .list-places .ensures)) free-in-requires returns-3)
