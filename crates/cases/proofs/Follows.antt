@@ -8,6 +8,7 @@ use Rattle.geometry.specs.Extreme.{bestInRow, bestInRows}
 use Rattle.extremes.specs.Exact.{extreme}
 use Rattle.zoom.specs.Run.{levelOf, levelAt, runFrom, quickRun}
 use Rattle.spacing.specs.Eligible.{clearOfAll}
+use Rattle.spacing.specs.SquareCorners.{clearOfAllBefore}
 use Rattle.fill.specs.Judge.{failingInRow, failingInRows, standardFailing, marginFailing}
 use Rattle.spelling.specs.Text.{bytes, pieces}
 use Rattle.spelling.specs.Decimal.{decimal, decimalIn, digitsOf, pastDigits, valueFrom, sameBytes}
@@ -22,5 +23,5 @@ use Rattle.cases.specs.Printing.{printedLines}
 use Rattle.cases.specs.Table.{table}
 
 pub cases : foundIn table ≡ statedIn table
-unfolding rounded sum rectSum covered bestInRow bestInRows extreme levelOf levelAt runFrom quickRun trailingZeros clearOfAll failingInRow failingInRows standardFailing marginFailing bytes pieces decimal decimalIn digitsOf pastDigits valueFrom sameBytes spell readAs oneGapPattern twoGapsPattern rectPattern dummyPattern fillPattern endPattern formOf shapeFault fillFault lineFault standsAfter readLines outcomeOf answerFor textOf printedLines
+unfolding rounded sum rectSum covered bestInRow bestInRows extreme levelOf levelAt runFrom quickRun trailingZeros clearOfAll clearOfAllBefore failingInRow failingInRows standardFailing marginFailing bytes pieces decimal decimalIn digitsOf pastDigits valueFrom sameBytes spell readAs oneGapPattern twoGapsPattern rectPattern dummyPattern fillPattern endPattern formOf shapeFault fillFault lineFault standsAfter readLines outcomeOf answerFor textOf printedLines
 cases = refl

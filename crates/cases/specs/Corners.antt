@@ -6,6 +6,7 @@ use Rattle.spelling.specs.Text.{bytes}
 use Rattle.geometry.specs.Count.{one-if}
 use Rattle.spacing.specs.declared.Keepout.{Keepout}
 use Rattle.spacing.specs.Eligible.{eligible, fillableArea}
+use Rattle.spacing.specs.SquareCorners.{eligibleBefore, fillableBefore}
 use Rattle.cases.specs.Row.{Row, row}
 use Rattle.cases.specs.Printing.{prints, printedLines}
 
@@ -17,7 +18,7 @@ shapeAt x y gap = record { rect = record { x1 = x; y1 = y; x2 = x + 1; y2 = y + 
 abbrev tells : List Keepout → List (ℕ × ℕ) → List ℕ
 tells ks squares = map (λ s. one-if (eligible ks (s .0) (s .1))) squares
 
--- a layout of 8 with a shape in a corner, whose window is as wide, and no fill that fails a bound
+-- the answer for a layout of side 8 whose window is all of it, with one unit square of metal and a fill that keeps both bounds
 abbrev linesCorner : List String
 linesCorner =
     "(exact (max 1 0 0 1) (min 1 0 0 1))"
@@ -38,7 +39,22 @@ cornerRows =
     ∷ row "each shape by itself and by its own gap"
     (tells (shapeAt 0 0 4 ∷ shapeAt 8 8 4 ∷ []) ((4, 4) ∷ []) ++ tells (shapeAt 0 0 4 ∷ shapeAt 8 8 5 ∷ []) ((4, 4) ∷ []))
     (1 ∷ 0 ∷ [])
-    ∷ row "all that B = 4 leaves around a shape" (fillableArea (shapeAt 5 5 4 ∷ []) (record { x1 = 0; y1 = 0; x2 = 11; y2 = 11 }) ∷ []) (44 ∷ [])
+    ∷ row "the first shape's gap, and the farther one's, count too"
+    (tells (shapeAt 0 0 5 ∷ shapeAt 8 8 4 ∷ []) ((4, 4) ∷ []) ++ tells (shapeAt 3 3 0 ∷ shapeAt 8 8 5 ∷ []) ((4, 4) ∷ [])
+    ++ tells (shapeAt 8 8 5 ∷ shapeAt 3 3 0 ∷ []) ((4, 4) ∷ []))
+    (0 ∷ 0 ∷ 0 ∷ [])
+    ∷ row "a wide shape, B = 4"
+    (tells (record { rect = record { x1 = 4; y1 = 5; x2 = 8; y2 = 6 }; gap = 4 } ∷ []) ((11, 9) ∷ (10, 9) ∷ (0, 1) ∷ (1, 1) ∷ (0, 2) ∷ []))
+    (1 ∷ 0 ∷ 1 ∷ 0 ∷ 0 ∷ [])
+    ∷ row "the largest gap: 39321 and 52428 are just it"
+    (tells (shapeAt 0 0 65535 ∷ []) ((39322, 52429) ∷ (39321, 52429) ∷ (65535, 65535) ∷ (65535, 0) ∷ (65536, 0) ∷ []))
+    (1 ∷ 0 ∷ 1 ∷ 0 ∷ 1 ∷ [])
+    ∷ row "what becomes eligible with B = 4: squares before and now, and all around a shape"
+    (one-if (eligibleBefore (shapeAt 5 5 4 ∷ []) 9 9) ∷ one-if (eligible (shapeAt 5 5 4 ∷ []) 9 9)
+    ∷ one-if (eligibleBefore (shapeAt 5 5 4 ∷ []) 10 5) ∷ one-if (eligible (shapeAt 5 5 4 ∷ []) 10 5)
+    ∷ fillableBefore (shapeAt 5 5 4 ∷ []) (record { x1 = 0; y1 = 0; x2 = 11; y2 = 11 })
+    ∷ fillableArea (shapeAt 5 5 4 ∷ []) (record { x1 = 0; y1 = 0; x2 = 11; y2 = 11 }) ∷ [])
+    (0 ∷ 1 ∷ 1 ∷ 1 ∷ 40 ∷ 44 ∷ [])
     ∷ row "a tile that B = 4 leaves whole"
     (prints "(job (size 8) (window 8) (cut 2) (gap 4) (bounds 0 5000) (zoom 0 6))\n(rect 0 0 1 1)\n(fill 1 1 16)\n(end)\n")
     (printedLines linesCorner)

@@ -14,7 +14,7 @@ use Rattle.geometry.specs.declared.Rect.{Rect}
 use Rattle.geometry.specs.Sizes.{widest, largest}
 use Rattle.geometry.specs.Count.{span, boxSum}
 use Rattle.geometry.specs.Layout.{coveredArea, rectsOf}
-use Rattle.geometry.proofs.Counting.{Inside, span-empty, box-cong, box-le, box-const}
+use Rattle.geometry.proofs.Counting.{Inside, same-box, span-empty, box-cong, box-le, box-const}
 use Rattle.geometry.proofs.Overlaps.{area-small}
 use Rattle.sweep.specs.declared.Frame.{Frame}
 use Rattle.sweep.specs.Strips.{stripSum, StripOf}
@@ -33,7 +33,6 @@ use Rattle.fill.specs.Sizes.{mostAcross, tilesRoom, topBound, Tiled, Row
 use Rattle.spacing.proofs.Outside.{fillable-small}
 use Rattle.fill.proofs.Starts.{rows-cong}
 use Rattle.fill.proofs.Windows.{upper-inside, lower-inside}
-use Rattle.spacing.proofs.Boxes.{same-box}
 
 -- tile (i, j) has a place in a table with a number for each tile
 pub place-within : (across i j m : ℕ) → i < across → j < across → across * across ≤ m → j * across + i < m

@@ -17,6 +17,11 @@ pub record Inside (b : Rect) (x y : ℕ) : Type 0 where
   pub low : b .y1 ≤ y
   pub high : y < b .y2
 
+-- boxes with the same corners
+pub same-box : {a b c d x1 y1 x2 y2 : ℕ} → a ≡ x1 → b ≡ y1 → c ≡ x2 → d ≡ y2 →
+    _≡_ {A = Rect} (record { x1 = a; y1 = b; x2 = c; y2 = d }) (record { x1 = x1; y1 = y1; x2 = x2; y2 = y2 })
+same-box p q r s = λ i. record { x1 = p i; y1 = q i; x2 = r i; y2 = s i }
+
 -- ---- sums over the numbers below n
 
 pub sum-cong : (n : ℕ) (f g : ℕ → ℕ) → ((i : ℕ) → i < n → f i ≡ g i) → sum n f ≡ sum n g
@@ -164,6 +169,9 @@ pub box-const : (b : Rect) (k : ℕ) → boxSum b (λ x y. k) ≡ (b .y2 - b .y1
 box-const b k =
     span-cong (b .y1) (b .y2) (λ y. span (b .x1) (b .x2) (λ x. k)) (λ y. (b .x2 - b .x1) * k) (λ y l h. sum-const (b .x2 - b .x1) k)
     ∙ sum-const (b .y2 - b .y1) ((b .x2 - b .x1) * k)
+
+pub box-zero : (b : Rect) → boxSum b (λ x y. 0) ≡ 0
+box-zero b = omega (arith, box-const b 0)
 
 -- a product of a function of y and one of x sums to the product of the two sums
 pub box-product : (b : Rect) (f g : ℕ → ℕ) → boxSum b (λ x y. g y * f x) ≡ span (b .x1) (b .x2) f * span (b .y1) (b .y2) g

@@ -110,11 +110,10 @@ shares-overlap r b = ap (λ (k : ℕ). ltb 0 k) (overlap-is-area (r ∷ []) b (�
 
 -- ---- bounds
 
--- no more squares are covered than a box has
+-- no test holds for more squares than a box has
+pub count-small : (p : ℕ → ℕ → Bool) (b : Rect) → boxSum b (λ x y. one-if (p x y)) ≤ (b .x2 - b .x1) * (b .y2 - b .y1)
+count-small p b = omega (arith, box-le b (λ x y. one-if (p x y)) (λ x y. 1) (λ x y i. one-if-small (p x y)), box-const b 1)
+
+-- so no more are covered
 pub area-small : (rs : List Rect) (b : Rect) → coveredArea rs b ≤ (b .x2 - b .x1) * (b .y2 - b .y1)
-area-small rs b =
-    omega (
-      arith,
-      box-le b (λ x y. one-if (covered rs x y)) (λ x y. 1) (λ x y i. one-if-small (covered rs x y)),
-      box-const b 1,
-    )
+area-small rs b = count-small (covered rs) b

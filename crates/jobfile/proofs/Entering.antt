@@ -12,7 +12,8 @@ use lib.ListN.{length, take, drop, set, length-append, length-set}
 use lib.Seq.{take-set-lt, drop-set-lt}
 use Rattle.geometry.specs.Layout.{rectsOf}
 use Rattle.fill.specs.Judge.{tileIndex}
-use Rattle.spacing.specs.Free.{regionNumbers, withRegion}
+use Rattle.spacing.specs.Free.{withRegion}
+use Rattle.spacing.specs.Sizes.{regionNumbers}
 use Rattle.spacing.proofs.RegionTables.{regions-none, regions-more, regions-length}
 use Rattle.forms.specs.declared.Head.{Head}
 use Rattle.forms.specs.declared.Shape.{Shape}

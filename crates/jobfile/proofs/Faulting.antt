@@ -6,7 +6,7 @@ use mathlib.Core.List.{List, []}
 use native.Mathlib.Nat.{le-trans, lt-of-lt-of-le, suc-mul}
 use native.Mathlib.Omega.{arith}
 use lib.Arith.{digits-lt}
-use lib.Dec.{leb, ltb, eqb, lit≤}
+use lib.Dec.{leb, eqb, lit≤}
 use lib.ListN.{length, getD, take, drop, length-map}
 use lib.Seq.{length-take-le, getD-take}
 use borrow.Author.Tests.{lt-ltb, le-ltb, le-leb, lt-leb, eq-eqb, ne-eqb}
@@ -15,9 +15,8 @@ use Rattle.geometry.specs.Sizes.{widest}
 use Rattle.geometry.specs.Layout.{rectsOf, sharesSquare}
 use Rattle.geometry.proofs.Tables.{rects-length}
 use Rattle.spacing.specs.Eligible.{tile}
-use Rattle.spacing.specs.Free.{regionNumbers}
 use Rattle.fill.specs.Judge.{tileIndex, numberAt}
-use Rattle.spacing.specs.Sizes.{SmallBox}
+use Rattle.spacing.specs.Sizes.{regionNumbers, SmallBox}
 use Rattle.spacing.proofs.RegionTables.{regions-fillable}
 use Rattle.forms.specs.declared.Head.{Head}
 use Rattle.forms.specs.declared.Form.{Form}

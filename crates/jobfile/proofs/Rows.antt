@@ -11,8 +11,8 @@ use borrow.Author.Tests.{eq-eqb, ne-eqb, eqb-true}
 use Rattle.geometry.specs.declared.Rect.{Rect}
 use Rattle.spacing.specs.declared.Part.{Part}
 use Rattle.spacing.specs.Eligible.{tile}
-use Rattle.spacing.specs.Free.{regionNumbers, Serves}
-use Rattle.spacing.specs.Sizes.{SmallBox}
+use Rattle.spacing.specs.Free.{Serves}
+use Rattle.spacing.specs.Sizes.{regionNumbers, SmallBox}
 use Rattle.spacing.proofs.NearParts.{all-serves, serves-inside}
 use Rattle.forms.specs.declared.Head.{Head}
 use Rattle.forms.specs.Limits.{unitLimits}

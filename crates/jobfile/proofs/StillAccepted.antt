@@ -16,8 +16,8 @@ use Rattle.forms.specs.Limits.{Limits}
 use Rattle.forms.specs.Forms.{known, inRange, tileSide, tilesAcross, hasTile}
 use Rattle.jobfile.specs.Filling.{keepouts}
 use Rattle.jobfile.specs.Faults.{Standing, inTurn, check, fillFault, ownFault, lineFault, roomOf}
-use Rattle.jobfile.specs.Acceptance.{Good, none, next, AcceptedFile}
-use Rattle.jobfile.specs.SquareCorners.{squareRoomOf, squareOwnFault, squareFault, SquarelyGood, SquarelyAccepted, StillAccepted}
+use Rattle.jobfile.specs.Acceptance.{Good, none, next}
+use Rattle.jobfile.specs.SquareCorners.{roomBefore, ownFaultBefore, faultBefore, GoodBefore, StillAccepted}
 use Rattle.jobfile.proofs.Faultless.{check-passes, faultless}
 use Rattle.jobfile.proofs.Files.{acceptance}
 
@@ -32,25 +32,25 @@ fill-still h amounts room room′ i j p more e =
     rw (a .0, b .0, le-leb p room′ (le-trans (leb-true p room (c .0)) more))
 
 module _ (limits : Limits) where
-  own : (st : Standing) (f : Form) → squareOwnFault limits st f ≡ 0 → ownFault limits st f ≡ 0
+  own : (st : Standing) (f : Form) → ownFaultBefore limits st f ≡ 0 → ownFault limits st f ≡ 0
   own st Unknown e = e
   own st (Heading h) e = e
   own st (Metal s) e = e
   own st (Fill i j p) e =
-      fill-still (st .head) (st .amounts) (squareRoomOf st i j) (roomOf st i j) i j p
+      fill-still (st .head) (st .amounts) (roomBefore st i j) (roomOf st i j) i j p
       (no-area-falls (keepouts (st .head .gap) (st .shapes)) (tile (tileSide (st .head)) i j)) e
   own st End e = e
 
-  fault : (st : Standing) (f : Form) → squareFault limits st f ≡ 0 → lineFault limits st f ≡ 0
+  fault : (st : Standing) (f : Form) → faultBefore limits st f ≡ 0 → lineFault limits st f ≡ 0
   fault st f e =
-      let a = check-passes (known f) 2 (check (inRange limits f) 3 (check (inTurn (st .turn) f) 4 (squareOwnFault limits st f))) (lit< tt) e in
-      let b = check-passes (inRange limits f) 3 (check (inTurn (st .turn) f) 4 (squareOwnFault limits st f)) (lit< tt) (a .1) in
-      let c = check-passes (inTurn (st .turn) f) 4 (squareOwnFault limits st f) (lit< tt) (b .1) in
+      let a = check-passes (known f) 2 (check (inRange limits f) 3 (check (inTurn (st .turn) f) 4 (ownFaultBefore limits st f))) (lit< tt) e in
+      let b = check-passes (inRange limits f) 3 (check (inTurn (st .turn) f) 4 (ownFaultBefore limits st f)) (lit< tt) (a .1) in
+      let c = check-passes (inTurn (st .turn) f) 4 (ownFaultBefore limits st f) (lit< tt) (b .1) in
       faultless limits st f (record { spelled = a .0; range = b .0; turn = c .0; own = own st f (c .1) })
 
-  still-good : {st st′ : Standing} {fs : List Form} → SquarelyGood limits st fs st′ → Good limits st fs st′
-  still-good SquarelyGood.none = none
-  still-good (SquarelyGood.next {st = x} {f = f} short e g) = next short (fault x f e) (still-good g)
+  still-good : {st st′ : Standing} {fs : List Form} → GoodBefore limits st fs st′ → Good limits st fs st′
+  still-good GoodBefore.none = none
+  still-good (GoodBefore.next {st = x} {f = f} short e g) = next short (fault x f e) (still-good g)
 
 pub still-accepted : StillAccepted
 still-accepted limits file st a =

@@ -11,9 +11,9 @@ use Rattle.geometry.specs.Layout.{Disjoint, Layer, rectsOf, withRect}
 use Rattle.spelling.specs.Scanning.{lineLength}
 use Rattle.spacing.specs.declared.Part.{Part}
 use Rattle.spacing.specs.Eligible.{tile}
-use Rattle.spacing.specs.Free.{regionNumbers, Regions, withRegion, freeIn, Serves}
+use Rattle.spacing.specs.Free.{Regions, withRegion, freeIn, Serves}
 use Rattle.fill.specs.Judge.{numberAt}
-use Rattle.spacing.specs.Sizes.{SmallKeepout, SmallTable}
+use Rattle.spacing.specs.Sizes.{regionNumbers, SmallKeepout, SmallTable}
 use Rattle.forms.specs.declared.Head.{Head}
 use Rattle.forms.specs.declared.Kind.{Kind}
 use Rattle.forms.specs.declared.Kind.the-variants.{Drawn, Dummy}

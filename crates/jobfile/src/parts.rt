@@ -10,7 +10,7 @@ use spacing::part_near;
 ghost use mathlib.Core.Path.{_≡_};
 ghost use Prim.Native.Nat.{_*_, _<_};
 ghost use lib.ListN.{take};
-ghost use Rattle.spacing.specs.Free.{regionNumbers};
+ghost use Rattle.spacing.specs.Sizes.{regionNumbers};
 ghost use Rattle.forms.specs.Forms.{tilesAcross};
 ghost use Rattle.jobfile.specs.Held.{isRow, partFor, NearHeld, RegionsHeld};
 

@@ -1,18 +1,19 @@
 -- Regions that do not come near a box: they may be left out of what holds its squares, so that a part of the table is enough for it.
 use Prim.Native.Nat.{ℕ, zero, suc, _+_, _-_, _*_, _/_, _≤_, _<_}
 use mathlib.Core.Path.{_≡_, refl, sym, ap, ap₂, _∙_}
-use mathlib.Core.Bool.{Bool, true, false, _||_}
-use mathlib.Core.List.{List, [], _∷_, _++_}
+use mathlib.Core.Bool.{Bool, false, _||_, or-assoc, or-false}
+use mathlib.Core.List.{List}
 use native.Mathlib.Nat.{sub-zero}
 use native.Mathlib.Omega.{arith}
 use lib.ListN.{length}
 use Rattle.geometry.specs.declared.Rect.{Rect}
 use Rattle.spacing.specs.declared.Region.{Region}
 use Rattle.spacing.specs.declared.Part.{Part}
-use Rattle.spacing.specs.Free.{regionNumbers, regionAt, holdsSquare, placesFrom, placesOf, placesIn, heldBy, freeBy, freeIn, AgreeOn, Serves}
+use Rattle.spacing.specs.Free.{regionAt, holdsSquare, placesFrom, placesOf, placesIn, heldBy, Serves}
+use Rattle.spacing.specs.Sizes.{regionNumbers}
 use Rattle.spacing.specs.Counting.{isNear, heldFrom, Skipped, LastNear}
 use Rattle.spacing.proofs.Distances.{none-held}
-use Rattle.spacing.proofs.Places.{places-next, places-end, held-next, held-none, or-assoc, or-false}
+use Rattle.spacing.proofs.Places.{places-next, places-end, held-next, held-none}
 
 -- ---- the regions from a place on
 
@@ -23,6 +24,10 @@ from-next t i x y h =
 
 from-end : (t : List ℕ) (i x y : ℕ) → length t ≤ i + 4 → heldFrom t i x y ≡ false
 from-end t i x y h = ap (λ (ps : List ℕ). heldBy t ps x y) (places-end i (length t) (omega arith)) ∙ held-none t x y
+
+-- from the start on they are all
+from-start : (t : List ℕ) (x y : ℕ) → heldFrom t 0 x y ≡ heldBy t (placesIn t) x y
+from-start t x y = ap (λ (n : ℕ). heldBy t (placesFrom 0 (n / regionNumbers)) x y) (sub-zero (length t))
 
 -- ---- regions that are skipped
 
@@ -91,7 +96,7 @@ from-cut t zero at x y h =
 from-cut t (suc n) at x y h =
     from-next t at x y (omega arith)
     ∙ ap (λ (u : Bool). holdsSquare (regionAt t at) x y || u) (from-cut t n (at + regionNumbers) x y (omega arith))
-    ∙ or-assoc (holdsSquare (regionAt t at) x y) (heldBy t (placesFrom (at + regionNumbers) n) x y) (heldFrom t (at + regionNumbers + regionNumbers * n) x y)
+    ∙ sym (or-assoc (holdsSquare (regionAt t at) x y) (heldBy t (placesFrom (at + regionNumbers) n) x y) (heldFrom t (at + regionNumbers + regionNumbers * n) x y))
     ∙ ap₂ (λ (u : Bool) (k : ℕ). u || heldFrom t k x y) (sym (held-next t at (placesFrom (at + regionNumbers) n) x y)) there
   where
     there : at + regionNumbers + regionNumbers * n ≡ at + regionNumbers * suc n
@@ -110,14 +115,11 @@ module _ (t : List ℕ) (b : Rect) (from to : ℕ) (s : Skipped t 0 b from) (l :
             ∙ ap (λ (v : Bool). heldBy t (placesFrom from (l .regions)) x y || v) (l .rest x y p q r u)
             ∙ or-false (heldBy t (placesFrom from (l .regions)) x y))
             ∙ s .same x y p q r u
-            ∙ all x y;
+            ∙ from-start t x y;
       }
     where
       count : (to - from) / regionNumbers ≡ l .regions
       count = omega (arith, l .whole)
-
-      all : (x y : ℕ) → heldFrom t 0 x y ≡ heldBy t (placesIn t) x y
-      all x y = ap (λ (n : ℕ). heldBy t (placesFrom 0 (n / regionNumbers)) x y) (sub-zero (length t))
 
 -- all of a table is enough, and what is enough for a box is enough for one inside
 pub all-serves : (t : List ℕ) (b : Rect) → Serves t b (record { from = 0; to = length t })
@@ -125,7 +127,7 @@ all-serves t b =
     record {
       order = omega arith;
       within = omega arith;
-      same = λ x y p q r s. ap (λ (n : ℕ). heldBy t (placesFrom 0 (n / regionNumbers)) x y) (sub-zero (length t));
+      same = λ x y p q r s. from-start t x y;
     }
 
 pub serves-inside : (t : List ℕ) (b c : Rect) (p : Part) → Serves t b p → b .x1 ≤ c .x1 → b .y1 ≤ c .y1 → c .x2 ≤ b .x2 → c .y2 ≤ b .y2 → Serves t c p

@@ -10,10 +10,8 @@ use lib.Dec.{leb, ltb}
 use borrow.Author.Tests.{lt-ltb, le-ltb, le-leb, lt-leb, leb-true, ltb-true}
 use Rattle.laws.proofs.Tests.{le-or-lt, both}
 use Rattle.geometry.specs.declared.Rect.{Rect}
-use Rattle.geometry.specs.Count.{one-if, boxSum}
 use Rattle.geometry.specs.Layout.{holds, covered}
-use Rattle.geometry.proofs.Counting.{box-le, box-const}
-use Rattle.geometry.proofs.Overlaps.{one-if-small}
+use Rattle.geometry.proofs.Overlaps.{count-small}
 use Rattle.spacing.specs.declared.Keepout.{Keepout}
 use Rattle.spacing.specs.Eligible.{gapBetween, square, clearOf, clearOfAll, rectsIn, eligible, fillableArea}
 use Rattle.spacing.specs.Free.{regionOf, offSpan, isShort, holdsSquare}
@@ -146,5 +144,4 @@ eligible-outside (k ∷ ks) x y =
 
 -- a box takes no more fill than it has squares
 pub fillable-small : (ks : List Keepout) (b : Rect) → fillableArea ks b ≤ (b .x2 - b .x1) * (b .y2 - b .y1)
-fillable-small ks b =
-    omega (arith, box-le b (λ x y. one-if (eligible ks x y)) (λ x y. 1) (λ x y i. one-if-small (eligible ks x y)), box-const b 1)
+fillable-small ks b = count-small (eligible ks) b

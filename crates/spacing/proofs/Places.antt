@@ -1,7 +1,7 @@
 -- Lists of places: a part's, one by one; what the regions at the places of a list hold; and the list that is kept for a box.
 use Prim.Native.Nat.{ℕ, zero, suc, _+_, _-_, _*_, _/_, _≤_, _<_}
 use mathlib.Core.Path.{_≡_, refl, sym, ap, ap₂, _∙_, subst}
-use mathlib.Core.Bool.{Bool, true, false, not, _||_}
+use mathlib.Core.Bool.{Bool, true, false, not, _||_, or-assoc, or-false, or-true}
 use mathlib.Core.List.{List, [], _∷_, _++_, append-nil}
 use mathlib.Core.Logic.{_⊎_, inl, inr}
 use native.Mathlib.Numerals.{add-one}
@@ -16,9 +16,9 @@ use Rattle.geometry.specs.Count.{one-if}
 use Rattle.geometry.proofs.Counting.{box-cong}
 use Rattle.spacing.specs.declared.Region.{Region}
 use Rattle.spacing.specs.declared.Part.{Part}
-use Rattle.spacing.specs.Free.{regionNumbers, regionAt, holdsSquare, placesFrom, placesOf, placesIn, heldBy, freeBy, freeIn, AgreeOn, Serves}
+use Rattle.spacing.specs.Free.{regionAt, holdsSquare, placesFrom, placesOf, placesIn, heldBy, freeBy, freeIn, AgreeOn, Serves}
 use Rattle.spacing.specs.Counting.{isNear, coversBox, isIdle, isSpare, Listed, Lists, Countable, Divisible, Enough}
-use Rattle.spacing.specs.Sizes.{FullBox, SmallTable, liveRoom}
+use Rattle.spacing.specs.Sizes.{regionNumbers, FullBox, SmallTable, liveRoom}
 use Rattle.spacing.proofs.SmallRegions.{region-small}
 use Rattle.spacing.proofs.Distances.{none-held, all-held, some-held}
 use Rattle.spacing.proofs.Gains.{idle-held}
@@ -41,37 +41,25 @@ module _ (i e : ℕ) where
       none = omega arith
 
 -- all are places of regions, where the part lies in the table
-pub places-listed : (t : List ℕ) (at n : ℕ) → at + regionNumbers * n ≤ length t → Listed t (placesFrom at n)
+places-listed : (t : List ℕ) (at n : ℕ) → at + regionNumbers * n ≤ length t → Listed t (placesFrom at n)
 unfolding placesFrom
 places-listed t at zero h i k = absurd (omega arith)
 places-listed t at (suc n) h zero k = omega arith
 places-listed t at (suc n) h (suc i) k = places-listed t (at + regionNumbers) n (omega arith) i (omega arith)
 
-pub places-count : (at n : ℕ) → length (placesFrom at n) ≡ n
+places-count : (at n : ℕ) → length (placesFrom at n) ≡ n
 unfolding placesFrom
 places-count at zero = refl
 places-count at (suc n) = ap suc (places-count (at + regionNumbers) n)
 
 -- ---- what the regions of a list hold
 
-pub or-assoc : (a b c : Bool) → (a || (b || c)) ≡ ((a || b) || c)
-or-assoc true b c = refl
-or-assoc false b c = refl
-
-pub or-false : (a : Bool) → (a || false) ≡ a
-or-false true = refl
-or-false false = refl
-
-pub or-true : (a : Bool) → (a || true) ≡ true
-or-true true = refl
-or-true false = refl
-
-pub held-append : (t ps qs : List ℕ) (x y : ℕ) → heldBy t (ps ++ qs) x y ≡ (heldBy t ps x y || heldBy t qs x y)
+held-append : (t ps qs : List ℕ) (x y : ℕ) → heldBy t (ps ++ qs) x y ≡ (heldBy t ps x y || heldBy t qs x y)
 unfolding heldBy
 held-append t [] qs x y = refl
 held-append t (p ∷ ps) qs x y =
     ap (λ (h : Bool). holdsSquare (regionAt t p) x y || h) (held-append t ps qs x y)
-    ∙ or-assoc (holdsSquare (regionAt t p) x y) (heldBy t ps x y) (heldBy t qs x y)
+    ∙ sym (or-assoc (holdsSquare (regionAt t p) x y) (heldBy t ps x y) (heldBy t qs x y))
 
 pub held-one : (t : List ℕ) (p x y : ℕ) → heldBy t (p ∷ []) x y ≡ holdsSquare (regionAt t p) x y
 unfolding heldBy
@@ -282,7 +270,7 @@ module _ (t ps own : List ℕ) (lead : ℕ) (b : Rect) (n i : ℕ) (z : KeptSoFa
           listed = subst (Listed t) (sym kept) (listed-more t (take n own) (getD ps i 0) (z .listed) (q .listed i h));
           same = λ x y p q′ r s.
               ap₂ (λ (u : Bool) (m : ℕ). u || heldBy t (drop m ps) x y || leads x y) (more x y) (add-one i)
-              ∙ ap (λ (u : Bool). u || leads x y) (sym (or-assoc (heldBy t (take n own) x y) (holds-here x y) (heldBy t (drop (suc i) ps) x y)))
+              ∙ ap (λ (u : Bool). u || leads x y) (or-assoc (heldBy t (take n own) x y) (holds-here x y) (heldBy t (drop (suc i) ps) x y))
               ∙ ap (λ (u : Bool). heldBy t (take n own) x y || u || leads x y) (sym (at-next x y))
               ∙ z .same x y p q′ r s;
           led = λ k x y p q′ r s o. more x y ∙ go (below-or-last lead i (omega arith)) x y p q′ r s o;

@@ -1,7 +1,7 @@
 -- Tables of regions: what is free by one is fillable by the shapes; and that of no shape, and of one shape more.
-use Prim.Native.Nat.{ℕ, zero, suc, _+_, _-_, _*_, _/_, _≤_, _<_, min, max}
+use Prim.Native.Nat.{ℕ, zero, suc, _+_, _*_, _/_, _≤_, _<_}
 use mathlib.Core.Path.{_≡_, refl, sym, ap, ap₂, _∙_, subst}
-use mathlib.Core.Bool.{Bool, not, _||_}
+use mathlib.Core.Bool.{not, _||_}
 use mathlib.Core.List.{List, [], _∷_, _++_, append-assoc}
 use native.Mathlib.Nat.{add-zero}
 use native.Mathlib.Numerals.{add-one, add-two, add-three, add-four}
@@ -15,8 +15,8 @@ use Rattle.geometry.proofs.Counting.{box-cong}
 use Rattle.spacing.specs.declared.Keepout.{Keepout}
 use Rattle.spacing.specs.declared.Region.{Region}
 use Rattle.spacing.specs.Eligible.{eligible, fillableArea}
-use Rattle.spacing.specs.Free.{regionOf, regionNumbers, numbersOf, regionAt, holdsSquare, regionTable, Regions, withNumbers, withRegion, placesFrom, placesIn, heldBy, freeIn}
-use Rattle.spacing.specs.Sizes.{SmallKeepout, SmallTable, liveRoom}
+use Rattle.spacing.specs.Free.{regionOf, numbersOf, regionAt, holdsSquare, regionTable, Regions, withRegion, placesFrom, placesIn, heldBy, freeIn}
+use Rattle.spacing.specs.Sizes.{regionNumbers, SmallKeepout, liveRoom}
 use Rattle.spacing.proofs.Outside.{heldFor, eligible-outside}
 
 -- ---- the regions of a table, behind other numbers

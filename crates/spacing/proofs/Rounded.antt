@@ -9,16 +9,15 @@ use native.Mathlib.Omega.{arith}
 use lib.Dec.{leb}
 use borrow.Author.Tests.{le-leb, leb-true}
 use Rattle.laws.proofs.Tests.{both, either}
-use Rattle.geometry.specs.declared.Rect.{Rect}
 use Rattle.geometry.specs.Count.{one-if}
 use Rattle.geometry.specs.Layout.{covered}
 use Rattle.geometry.proofs.Counting.{box-le}
 use Rattle.spacing.specs.declared.Keepout.{Keepout}
-use Rattle.spacing.specs.Eligible.{gapBetween, square, clearOf, clearOfAll, rectsIn, eligible, fillableArea}
-use Rattle.spacing.specs.SquareCorners.{squarelyClearOf, squarelyClearOfAll, squarelyEligible, squareArea}
+use Rattle.spacing.specs.Eligible.{gapBetween, square, clearOf, clearOfAll, rectsIn, eligible}
+use Rattle.spacing.specs.SquareCorners.{clearOfBefore, clearOfAllBefore, eligibleBefore, EligibleStill, NoAreaFalls}
 use Rattle.spacing.proofs.Distances.{square-le}
 
-pub clear-still : (k : Keepout) (x y : ℕ) → squarelyClearOf k x y ≡ true → clearOf k x y ≡ true
+clear-still : (k : Keepout) (x y : ℕ) → clearOfBefore k x y ≡ true → clearOf k x y ≡ true
 clear-still k x y h = go (either (leb (k .gap) across) (leb (k .gap) down) h)
   where
     across : ℕ
@@ -33,21 +32,21 @@ clear-still k x y h = go (either (leb (k .gap) across) (leb (k .gap) down) h)
     go (inr e) =
         le-leb (square (k .gap)) (square across + square down) (omega (arith, square-le (k .gap) down (leb-true (k .gap) down e)))
 
-clear-of-all-still : (ks : List Keepout) (x y : ℕ) → squarelyClearOfAll ks x y ≡ true → clearOfAll ks x y ≡ true
-unfolding clearOfAll squarelyClearOfAll
+clear-of-all-still : (ks : List Keepout) (x y : ℕ) → clearOfAllBefore ks x y ≡ true → clearOfAll ks x y ≡ true
+unfolding clearOfAll clearOfAllBefore
 clear-of-all-still [] x y h = refl
 clear-of-all-still (k ∷ ks) x y h =
-    let each = both (squarelyClearOf k x y) (squarelyClearOfAll ks x y) h in
+    let each = both (clearOfBefore k x y) (clearOfAllBefore ks x y) h in
     ap₂ _&&_ (clear-still k x y (each .0)) (clear-of-all-still ks x y (each .1))
 
-pub eligible-still : (ks : List Keepout) (x y : ℕ) → squarelyEligible ks x y ≡ true → eligible ks x y ≡ true
+pub eligible-still : EligibleStill
 eligible-still ks x y h =
-    let each = both (not (covered (rectsIn ks) x y)) (squarelyClearOfAll ks x y) h in
+    let each = both (not (covered (rectsIn ks) x y)) (clearOfAllBefore ks x y) h in
     ap₂ _&&_ (each .0) (clear-of-all-still ks x y (each .1))
 
-pub no-area-falls : (ks : List Keepout) (b : Rect) → squareArea ks b ≤ fillableArea ks b
-no-area-falls ks b = box-le b (λ x y. one-if (squarelyEligible ks x y)) (λ x y. one-if (eligible ks x y)) (λ x y i. one-le x y (squarelyEligible ks x y) refl)
+pub no-area-falls : NoAreaFalls
+no-area-falls ks b = box-le b (λ x y. one-if (eligibleBefore ks x y)) (λ x y. one-if (eligible ks x y)) (λ x y i. one-le x y (eligibleBefore ks x y) refl)
   where
-    one-le : (x y : ℕ) (t : Bool) → squarelyEligible ks x y ≡ t → one-if t ≤ one-if (eligible ks x y)
+    one-le : (x y : ℕ) (t : Bool) → eligibleBefore ks x y ≡ t → one-if t ≤ one-if (eligible ks x y)
     one-le x y true e = rw (eligible-still ks x y e) (omega arith)
     one-le x y false e = omega arith

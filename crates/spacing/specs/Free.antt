@@ -1,5 +1,5 @@
--- What the code counts in place of eligible squares: those that no region of a table holds. A buyer need not read it: proofs/Regions.antt shows
--- that they are the eligible ones.
+-- What the code counts in place of eligible squares: those that no region of a table holds. A buyer need not read it: proofs/Outside.antt and
+-- proofs/RegionTables.antt show that they are the eligible ones.
 use Prim.Native.Nat.{ℕ, zero, suc, _+_, _-_, _*_, _/_, _≤_, _<_, min, max}
 use mathlib.Core.Path.{_≡_}
 use mathlib.Core.Bool.{Bool, false, not, _||_}
@@ -13,7 +13,7 @@ use Rattle.spacing.specs.declared.Keepout.{Keepout}
 use Rattle.spacing.specs.declared.Region.{Region}
 use Rattle.spacing.specs.declared.Part.{Part}
 use Rattle.spacing.specs.Eligible.{square, fillableArea}
-use Rattle.spacing.specs.Sizes.{SmallTable}
+use Rattle.spacing.specs.Sizes.{regionNumbers, SmallTable}
 
 -- ---- regions
 
@@ -22,7 +22,7 @@ abbrev pub grown : Rect → ℕ → Rect
 grown r by = record { x1 = r .x1 - by; y1 = r .y1 - by; x2 = r .x2 + by; y2 = r .y2 + by }
 
 -- the region that a shape keeps free of fill: all places nearer to a core than a reach. A square that touches the shape has gap 0 to it, so the core
--- has the places beside the shape too; without a gap it is the shape, and the reach 1 leaves no other place
+-- has the places beside the shape too; where the gap is 0 it is the shape, and the reach 1 leaves no other place
 abbrev pub regionOf : Keepout → Region
 regionOf k = record { core = grown (k .rect) (min 1 (k .gap)); reach = max 1 (k .gap) }
 
@@ -39,10 +39,6 @@ holdsSquare r x y = isShort (r .reach) (offSpan (r .core .x1) (r .core .x2) x) (
 
 -- ---- tables of regions
 
--- how many numbers of a table a region takes: the corners of its core, and its reach
-abbrev pub regionNumbers : ℕ
-regionNumbers = 5
-
 abbrev pub numbersOf : Region → List ℕ
 numbersOf r = r .core .x1 ∷ r .core .y1 ∷ r .core .x2 ∷ r .core .y2 ∷ r .reach ∷ []
 
@@ -55,11 +51,12 @@ unfoldable pub regionTable : List Keepout → List ℕ
 regionTable [] = []
 regionTable (k ∷ ks) = numbersOf (regionOf k) ++ regionTable ks
 
--- a table holds the regions of shapes, and 64 bits are enough for it; and with the region of one more behind n of them
+-- a table holds the regions of shapes, and 64 bits are enough for it
 pub record Regions (table : List ℕ) (ks : List Keepout) : Type 0 where
   pub numbers : table ≡ regionTable ks
   pub small : SmallTable table
 
+-- a table with the numbers of a region from a place on, and with the region of one more shape behind n of them
 abbrev pub withNumbers : List ℕ → ℕ → Region → List ℕ
 withNumbers table at r =
     set (set (set (set (set table at (r .core .x1)) (at + 1) (r .core .y1)) (at + 2) (r .core .x2)) (at + 3) (r .core .y2)) (at + 4) (r .reach)

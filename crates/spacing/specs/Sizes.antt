@@ -32,13 +32,17 @@ pub record FullBox (b : Rect) : Type 0 where
   pub right : b .x2 ≤ widest
   pub high : b .y2 ≤ widest
 
+-- how many numbers of a table a region takes: the corners of its core, and its reach
+abbrev pub regionNumbers : ℕ
+regionNumbers = 5
+
 -- how many regions may be left for a box
 abbrev pub liveRoom : ℕ
 liveRoom = mostRects
 
 -- a table of at most so many regions, and no number of it past 2^21: a core may pass its shape by a place
 pub record SmallTable (table : List ℕ) : Type 0 where
-  pub few : length table ≤ 5 * liveRoom
+  pub few : length table ≤ regionNumbers * liveRoom
   pub small : (i : ℕ) → getD table i 0 ≤ 2 * widest
 
 -- one of its regions
@@ -52,7 +56,7 @@ pub record SmallRegion (r : Region) : Type 0 where
 -- a part whose places are listed, in a list of so much room
 pub record PartRoom (p : Part) (room : ℕ) : Type 0 where
   pub order : p .from ≤ p .to
-  pub few : p .to ≤ 5 * liveRoom
+  pub few : p .to ≤ regionNumbers * liveRoom
   pub enough : room ≡ liveRoom
 
 -- a number whose square is formed

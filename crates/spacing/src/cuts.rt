@@ -1,6 +1,7 @@
 // Where a box is cut in two. Every cut inside it is right; a good one follows the
-// straight edge of a region, which then no longer crosses either part. It stays in
-// the middle half of the box, so that the parts get small soon.
+// straight edge of a region, which then no longer crosses either part. One outside
+// the middle half of the box is moved there, so that the parts get small soon, and
+// the edge is met in a later cut.
 use crate::Cut;
 use crate::Lines;
 use crate::Region;
@@ -11,7 +12,6 @@ use geometry::Rect;
 use geometry::smaller;
 ghost use Prim.Native.Nat.{_-_, _≤_, _<_, min};
 ghost use mathlib.Core.Path.{_≡_};
-ghost use lib.ListN.{length};
 ghost use Rattle.spacing.specs.Free.{grown};
 ghost use Rattle.spacing.specs.Counting.{Countable, Divisible, InBox, Cuts, before, behind};
 ghost use Rattle.spacing.specs.Sizes.{FullBox, SmallRegion};
@@ -24,8 +24,8 @@ fn share(low: u64, high: u64, at: u64) -> u64
     smaller(at - low, high - at)
 }
 
-// The line of two that leaves the larger smaller part; one that does not cross the
-// side leaves none.
+// Of two lines the one nearer the middle; one that does not cross the side is not
+// taken.
 fn nearer_middle(low: u64, high: u64, line: u64, at: u64) -> u64
     requires { ⌜ (low ≤ line) × (line < high) ⌝ }
     ensures { λ r. ⌜ (low ≤ r) × (r < high) ⌝ }
@@ -42,7 +42,7 @@ fn nearer_middle(low: u64, high: u64, line: u64, at: u64) -> u64
     at
 }
 
-// The lines after those of a rectangle's sides.
+// The better of the lines so far and a rectangle's sides.
 fn offer(l: Lines, b: Rect, r: Rect) -> Lines
     requires { ⌜ InBox b l ⌝ }
     ensures { λ m. ⌜ InBox b m ⌝ }

@@ -32,8 +32,12 @@ fn same_side(a: u64, b: u64, c: u64, d: u64, e: u64, f: u64) -> bool
     b <= smaller(c, e)
 }
 
-// Differences of squares are formed above this, so that none goes below 0.
-const GAIN_BASE: u64 = 17592186044416;
+// Distances and reaches are at most this.
+const LONGEST: u64 = 4194304;
+
+// Differences of squares are formed above this, the largest square that is formed,
+// so that none goes below 0.
+const GAIN_BASE: u64 = LONGEST * LONGEST;
 
 // By how much t squared is more than c squared.
 fn gain_at(t: u64, c: u64) -> u64

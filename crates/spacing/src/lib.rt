@@ -40,7 +40,7 @@ pub struct Part {
 }
 
 // What is left of a list of regions for a box: one of them covers it, or so many
-// come near.
+// are enough.
 pub enum Kept {
     Covered,
     Left(usize),
@@ -58,7 +58,7 @@ pub enum Cut {
     Row(u64),
 }
 
-// Where a box may be cut across, and where down; its low side where nowhere.
+// Lines that a box may be cut at, one on each axis; its low side where there is none.
 pub struct Lines {
     pub column: u64,
     pub row: u64,

@@ -8,6 +8,7 @@ use crate::near::covers_box;
 use crate::near::is_near;
 use crate::regions::REGION_NUMBERS;
 use crate::regions::region_at;
+use geometry::MOST_RECTS;
 use geometry::Rect;
 ghost use Prim.Native.Nat.{_<_};
 ghost use mathlib.Core.Path.{_≡_};
@@ -17,9 +18,10 @@ ghost use Rattle.spacing.specs.Counting.{Listed, Lists, Countable, Keeps
 ghost use Rattle.spacing.specs.Sizes.{SmallTable, PartRoom, liveRoom};
 
 // How many regions may be left for a box.
-pub(crate) const LIVE_ROOM: usize = 1024;
+pub(crate) const LIVE_ROOM: usize = MOST_RECTS;
 
-// Lists the places of a part of a table.
+// Lists the places of a part of a table. What stands behind them in the list is left
+// open.
 pub(crate) fn list_places(part: Part, out: &mut [u16]) -> usize
     requires { ⌜ PartRoom part (length (now out)) ⌝ }
     ensures { λ n. ⌜ Lists part (now (out .exit)) n ⌝ }
@@ -46,7 +48,8 @@ pub(crate) fn listed_region(regions: &[u64], places: &[u16], i: usize) -> Region
 }
 
 // Lists the places of the regions that come near a box and that the one at place
-// `lead` does not make idle, if none covers the box.
+// `lead` does not make idle, if none covers the box. The contract leaves open which
+// are kept: they hold all squares of the box that the others do.
 pub(crate) fn keep_near(
     regions: &[u64],
     places: &[u16],

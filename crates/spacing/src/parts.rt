@@ -8,7 +8,8 @@ ghost use lib.ListN.{length};
 ghost use Rattle.spacing.specs.Counting.{Skipped, LastNear};
 ghost use Rattle.spacing.specs.Sizes.{SmallBox, SmallTable};
 
-// The first place whose region comes near b, or the table's end.
+// The first place whose region comes near b, or the table's end. The contract says
+// only that what is before it may be left out.
 pub(crate) fn next_near(regions: &[u64], b: Rect) -> usize
     requires { ⌜ SmallTable (now regions) ⌝ }
     requires { ⌜ SmallBox b ⌝ }
@@ -24,7 +25,8 @@ pub(crate) fn next_near(regions: &[u64], b: Rect) -> usize
     i
 }
 
-// The place behind the last region from `at` on that comes near b, or `at`.
+// The place behind the last region from `at` on that comes near b, or `at`. The
+// contract says only that what is behind it may be left out.
 pub(crate) fn last_near(regions: &[u64], at: usize, b: Rect) -> usize
     requires { ⌜ SmallTable (now regions) ⌝ }
     requires { ⌜ SmallBox b ⌝ }

@@ -9,10 +9,10 @@ ghost use Prim.Native.Nat.{_+_, _-_, _*_, _≤_, _<_};
 ghost use mathlib.Core.Path.{_≡_};
 ghost use lib.ListN.{length};
 ghost use Rattle.geometry.specs.Sizes.{widest};
-ghost use Rattle.spacing.specs.Free.{grown, regionNumbers, regionAt, regionOf, withNumbers, withRegion};
-ghost use Rattle.spacing.specs.Sizes.{SmallKeepout};
+ghost use Rattle.spacing.specs.Free.{grown, regionAt, regionOf, withNumbers, withRegion};
+ghost use Rattle.spacing.specs.Sizes.{regionNumbers, SmallKeepout};
 
-// The difference, 0 where it would be below.
+// The difference, 0 where it would be below 0.
 pub(crate) fn less(a: u64, b: u64) -> u64
     ensures { λ r. ⌜ r ≡ a - b ⌝ }
 {

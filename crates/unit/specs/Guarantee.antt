@@ -1,5 +1,5 @@
 -- Start here: what a buyer may rely on, for every file and every lent buffer. The contracts of src/lib.rt cite it, so it binds the code; the last
--- two definitions compare files, and proofs/Replying.antt proves them.
+-- two definitions are laws about files, and proofs/Replying.antt proves them.
 --
 -- Determined by the definitions, but nothing more is promised of it: "undecided" says neither that the fill is safe nor that some placement
 -- breaks a bound, and the start that it names need not be the worst, nor need the one that "broken" names; kept counts starts and not windows,
@@ -18,7 +18,7 @@ use Rattle.forms.specs.Shapes.{rectangles}
 use Rattle.jobfile.specs.Faults.{Standing}
 use Rattle.jobfile.specs.Acceptance.{AcceptedFile, Acceptance}
 use Rattle.jobfile.specs.Gaps.{fileWith, MayBegin, SameGaps}
-use Rattle.jobfile.specs.SquareCorners.{SquarelyAccepted}
+use Rattle.jobfile.specs.SquareCorners.{AcceptedBefore}
 use Rattle.unit.specs.declared.Reply.{Reply}
 use Rattle.unit.specs.Answering.{answerOf, answerFor, textOf}
 use Rattle.unit.specs.Whole.{replyFor, bufferFor, replyNumber, replyValue, printedFor}
@@ -54,7 +54,7 @@ PrintedAlike = (h : Head) (g g′ : Gap) (rest : List ℕ) → MayBegin unitLimi
     printedFor (fileWith h g′ rest) ≡ printedFor (fileWith h g rest)
 
 -- document 02, request 6: a file that was accepted while corner gaps were square is answered by what stood then: head, rectangles and amounts. No
--- fillable area enters an answer, so all of it, the verdict too, is what it was
+-- fillable area enters an answer, so all of it, the verdict too, is what it was; reply and buffer follow in the same way
 abbrev pub AnsweredAsBefore : Type 0
-AnsweredAsBefore = (file : List ℕ) (st : Standing) → SquarelyAccepted unitLimits file st →
+AnsweredAsBefore = (file : List ℕ) (st : Standing) → AcceptedBefore unitLimits file st →
     printedFor file ≡ textOf (answerFor (st .head) (rectangles (st .shapes)) (st .amounts))

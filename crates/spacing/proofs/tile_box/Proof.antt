@@ -2,7 +2,7 @@
 use mathlib.Core.Path.{refl, sym, _∙_}
 use native.Mathlib.Nat.{suc-mul}
 use borrow.Author.Needs.{needs}
-use Rattle.spacing.proofs.Boxes.{same-box}
+use Rattle.geometry.proofs.Counting.{same-box}
 use Rattle.spacing.proofs.tile_box.Statement.{statement}
 use Rattle.spacing.proofs.tile_box.Tie as tie
 

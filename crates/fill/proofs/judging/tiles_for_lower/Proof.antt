@@ -1,7 +1,7 @@
 -- `fill::judging::tiles_for_lower` meets its contract, corner by corner. Assumes nothing.
 use mathlib.Core.Path.{refl}
 use borrow.Author.Needs.{needs}
-use Rattle.spacing.proofs.Boxes.{same-box}
+use Rattle.geometry.proofs.Counting.{same-box}
 use Rattle.fill.proofs.judging.tiles_for_lower.Statement.{statement}
 use Rattle.fill.proofs.judging.tiles_for_lower.Tie as tie
 

@@ -6,7 +6,8 @@ use denote.Ref.{now}
 use lib.ListN.{take}
 use lib.Seq.{length-take-le}
 use Rattle.spacing.specs.Eligible.{tile}
-use Rattle.spacing.specs.Free.{regionNumbers, freeIn}
+use Rattle.spacing.specs.Free.{freeIn}
+use Rattle.spacing.specs.Sizes.{regionNumbers}
 use Rattle.forms.specs.Forms.{tileSide}
 use Rattle.jobfile.proofs.Rows.{tile-served}
 use Rattle.jobfile.proofs.Faulting.{tile-corners, tile-small}

@@ -1,6 +1,5 @@
 -- `spacing::cuts::outline` meets its contract: by what its callees ensure. Assumes nothing.
 use mathlib.Core.Path.{ap, _∙_}
-use native.Mathlib.Omega.{arith}
 use borrow.Author.Needs.{needs}
 use Rattle.spacing.specs.Free.{grown}
 use Rattle.spacing.proofs.cuts.outline.Statement.{statement}

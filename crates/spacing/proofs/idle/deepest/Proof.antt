@@ -1,6 +1,5 @@
 -- `spacing::idle::deepest` meets its contract. The loop's invariant: the lead is in the list. The measure is what is left of the list. Assumes nothing.
 use Prim.Native.Nat.{_-_, _<_}
-use native.Mathlib.Omega.{arith}
 use borrow.Author.Needs.{needs}
 use lib.ListN.{length}
 use Rattle.spacing.proofs.SmallRegions.{region-small, full-small}

@@ -1,7 +1,7 @@
 -- `spacing::regions::grow` meets its contract. Assumes nothing.
 use mathlib.Core.Path.{refl}
 use borrow.Author.Needs.{needs}
-use Rattle.spacing.proofs.Boxes.{same-box}
+use Rattle.geometry.proofs.Counting.{same-box}
 use Rattle.spacing.proofs.regions.grow.Statement.{statement}
 use Rattle.spacing.proofs.regions.grow.Tie as tie
 

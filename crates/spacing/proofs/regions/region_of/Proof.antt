@@ -1,8 +1,6 @@
 -- `spacing::regions::region_of` meets its contract: by what its callees ensure. Assumes nothing.
-use mathlib.Core.Path.{_≡_, ap, _∙_}
-use native.Mathlib.Omega.{arith}
+use mathlib.Core.Path.{ap, _∙_}
 use borrow.Author.Needs.{needs}
-use Rattle.geometry.specs.declared.Rect.{Rect}
 use Rattle.spacing.specs.Free.{grown}
 use Rattle.spacing.proofs.regions.region_of.Statement.{statement}
 use Rattle.spacing.proofs.regions.region_of.Tie as tie
