@@ -61,7 +61,7 @@ cornerRows =
     ∷ row "one unit of fill more than its squares"
     (prints "(job (size 8) (window 8) (cut 2) (gap 4) (bounds 0 5000) (zoom 0 6))\n(rect 0 0 1 1)\n(fill 1 1 17)\n")
     (bytes "(refused 11 3)\n")
-    ∷ row "a tile but for the square that B = 5 takes"
+    ∷ row "a tile less the one square that B = 5 takes"
     (prints "(job (size 8) (window 8) (cut 2) (gap 5 4) (bounds 0 5000) (zoom 0 6))\n(rect 0 0 1 1)\n(fill 1 1 15)\n(end)\n")
     (printedLines linesCorner)
     ∷ row "one unit of fill more than B = 5 leaves"

@@ -63,7 +63,7 @@ pub record PartRoom (p : Part) (room : ℕ) : Type 0 where
 abbrev pub longest : ℕ
 longest = 4 * widest
 
--- a span a to b whose ends are held against the near ends c and e of others
+-- a span a to b, and the low ends c and e of two others that it is held against
 pub record SmallSpans (a b c e : ℕ) : Type 0 where
   pub order : a ≤ b
   pub end : b ≤ widest

@@ -17,15 +17,15 @@ ghost use Rattle.spacing.specs.Counting.{Countable, Divisible, InBox, Cu
 ghost use Rattle.spacing.specs.Sizes.{FullBox, SmallRegion};
 
 // The smaller of the two parts of a side.
-fn share(low: u64, high: u64, at: u64) -> u64
+fn smaller_part(low: u64, high: u64, at: u64) -> u64
     requires { ⌜ (low ≤ at) × (at < high) ⌝ }
     ensures { λ r. ⌜ r ≡ min (at - low) (high - at) ⌝ }
 {
     smaller(at - low, high - at)
 }
 
-// Of two lines the one nearer the middle; one that does not cross the side is not
-// taken.
+// Of the line so far and another one that nearer the middle; one that does not cross
+// the side is not taken.
 fn nearer_middle(low: u64, high: u64, line: u64, at: u64) -> u64
     requires { ⌜ (low ≤ line) × (line < high) ⌝ }
     ensures { λ r. ⌜ (low ≤ r) × (r < high) ⌝ }
@@ -36,7 +36,7 @@ fn nearer_middle(low: u64, high: u64, line: u64, at: u64) -> u64
     if high <= at {
         return line;
     }
-    if share(low, high, at) <= share(low, high, line) {
+    if smaller_part(low, high, at) <= smaller_part(low, high, line) {
         return line;
     }
     at
@@ -125,15 +125,16 @@ fn middle(b: Rect) -> Cut
     Cut::Row(b.y1 + up / 2)
 }
 
-// The better of two lines, if there is one.
+// The line with the larger smaller part; where there is none, the middle of the longer
+// side.
 fn choose(b: Rect, l: Lines) -> Cut
     requires { ⌜ FullBox b ⌝ }
     requires { ⌜ Divisible b ⌝ }
     requires { ⌜ InBox b l ⌝ }
     ensures { λ c. ⌜ Cuts b c ⌝ }
 {
-    let across = share(b.x1, b.x2, l.column);
-    let up = share(b.y1, b.y2, l.row);
+    let across = smaller_part(b.x1, b.x2, l.column);
+    let up = smaller_part(b.y1, b.y2, l.row);
     if across + up == 0 {
         return middle(b);
     }

@@ -1,6 +1,12 @@
-// Regions that another one makes idle: at the same corner of both cores it holds all
-// squares of a box that they hold. Where arcs of many shapes nearly coincide, few
-// are left by this.
+// Regions that another one makes idle: it holds all squares of a box that they hold.
+// Where arcs of many shapes nearly coincide, few regions are left by this.
+//
+// A region holds a square if its squared distance is below the squared reach. So the
+// region c holds all that t holds if at every square of the box the squared distance
+// from t exceeds that from c by at least the squared reach of t less that of c. A
+// squared distance is a part across plus a part down. On one side of both cores the
+// difference of two such parts, (x − p)² − (x − q)², has no x² left: it rises or
+// falls all the way, so that it is least at one of the two ends of the box.
 use crate::Region;
 use crate::live::listed_region;
 use crate::near::farthest_off;
@@ -39,7 +45,7 @@ const LONGEST: u64 = 4194304;
 // so that none goes below 0.
 const GAIN_BASE: u64 = LONGEST * LONGEST;
 
-// By how much t squared is more than c squared.
+// By how much t squared is more than c squared, above the base.
 fn gain_at(t: u64, c: u64) -> u64
     requires { ⌜ (t ≤ longest) × (c ≤ longest) ⌝ }
     ensures { λ r. ⌜ r ≡ gainAt t c ⌝ }
@@ -58,7 +64,8 @@ fn least_gain(a: u64, b: u64, c: u64, d: u64, e: u64, f: u64) -> u64
     smaller(near, far)
 }
 
-// Whether the region c holds all that the region t holds of a box.
+// True only where the region c holds all that the region t holds of a box; false says
+// nothing.
 fn is_idle(t: Region, c: Region, b: Rect) -> bool
     requires { ⌜ SmallRegion t ⌝ }
     requires { ⌜ SmallRegion c ⌝ }
@@ -74,8 +81,8 @@ fn is_idle(t: Region, c: Region, b: Rect) -> bool
         return false;
     }
     let across = least_gain(b.x1, b.x2, p.x1, p.x2, q.x1, q.x2);
-    let up = least_gain(b.y1, b.y2, p.y1, p.y2, q.y1, q.y2);
-    t.reach * t.reach + GAIN_BASE + GAIN_BASE <= across + up + c.reach * c.reach
+    let down = least_gain(b.y1, b.y2, p.y1, p.y2, q.y1, q.y2);
+    t.reach * t.reach + GAIN_BASE + GAIN_BASE <= across + down + c.reach * c.reach
 }
 
 // The same of the region at place i of a list, where c is the one at place `lead`,
@@ -100,13 +107,13 @@ fn depth_in(r: Region, b: Rect) -> u64
 {
     let core = r.core;
     let across = nearest_off(b.x1, b.x2, core.x1, core.x2);
-    let up = nearest_off(b.y1, b.y2, core.y1, core.y2);
-    less(r.reach * r.reach, across * across + up * up)
+    let down = nearest_off(b.y1, b.y2, core.y1, core.y2);
+    less(r.reach * r.reach, across * across + down * down)
 }
 
-// The region of a list that the nearest square of a box lies deepest in: it makes
-// the most others idle. The contract leaves open which it is, since every one gives
-// the same count.
+// The region of a list that the nearest square of a box lies deepest in: it is likely
+// to make many others idle. The contract leaves open which it is, since every one
+// gives the same count.
 pub(crate) fn deepest(regions: &[u64], places: &[u16], b: Rect) -> usize
     requires { ⌜ Countable (now regions) (now places) b ⌝ }
     requires { ⌜ 0 < length (now places) ⌝ }

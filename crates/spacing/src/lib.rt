@@ -28,9 +28,9 @@ pub struct Keepout {
 }
 
 // All places nearer to a core than a reach, by straight distance.
-pub struct Region {
-    pub core: Rect,
-    pub reach: u64,
+struct Region {
+    core: Rect,
+    reach: u64,
 }
 
 // A part of a table of regions, from one place to before another.
@@ -41,27 +41,27 @@ pub struct Part {
 
 // What is left of a list of regions for a box: one of them covers it, or so many
 // are enough.
-pub enum Kept {
+enum Kept {
     Covered,
     Left(usize),
 }
 
 // The free squares of a box, where they are known without a cut.
-pub enum Settled {
+enum Settled {
     Open,
     Area(u64),
 }
 
 // Where a box is cut in two.
-pub enum Cut {
+enum Cut {
     Column(u64),
     Row(u64),
 }
 
 // Lines that a box may be cut at, one on each axis; its low side where there is none.
-pub struct Lines {
-    pub column: u64,
-    pub row: u64,
+struct Lines {
+    column: u64,
+    row: u64,
 }
 
 // The box of a tile.
@@ -87,10 +87,11 @@ pub fn fillable(regions: &[u64], near: Part, b: Rect) -> u64
     }
     let mut places = [0u16; live::LIVE_ROOM];
     let count = live::list_places(near, &mut places);
+    // Without a region there is no lead; before the first cut any will do.
     if count == 0 {
         return free::size(b);
     }
-    free::free_in(regions, &places[..count], 0, b)
+    free::free_by(regions, &places[..count], 0, b)
 }
 
 // A part of a table that is enough for a box and for every box inside: from the
@@ -101,7 +102,7 @@ pub fn part_near(regions: &[u64], b: Rect) -> Part
     requires { ⌜ SmallBox b ⌝ }
     ensures { λ p. ⌜ Serves (now (regions .entry)) b p ⌝ }
 {
-    let from = parts::next_near(regions, b);
+    let from = parts::first_near(regions, b);
     let to = parts::last_near(regions, from, b);
     Part { from, to }
 }

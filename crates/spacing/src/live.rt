@@ -17,7 +17,7 @@ ghost use Rattle.spacing.specs.Free.{regionAt};
 ghost use Rattle.spacing.specs.Counting.{Listed, Lists, Countable, Keeps};
 ghost use Rattle.spacing.specs.Sizes.{SmallTable, PartRoom, liveRoom};
 
-// How many regions may be left for a box.
+// How many regions may be left for a box, or be live.
 pub(crate) const LIVE_ROOM: usize = MOST_RECTS;
 
 // Lists the places of a part of a table. What stands behind them in the list is left

@@ -10,7 +10,7 @@ ghost use Rattle.spacing.specs.Sizes.{SmallBox, SmallTable};
 
 // The first place whose region comes near b, or the table's end. The contract says
 // only that what is before it may be left out.
-pub(crate) fn next_near(regions: &[u64], b: Rect) -> usize
+pub(crate) fn first_near(regions: &[u64], b: Rect) -> usize
     requires { ⌜ SmallTable (now regions) ⌝ }
     requires { ⌜ SmallBox b ⌝ }
     ensures { λ r. ⌜ Skipped (now (regions .entry)) 0 b r ⌝ }

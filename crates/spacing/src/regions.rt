@@ -19,7 +19,7 @@ pub(crate) fn less(a: u64, b: u64) -> u64
     if a < b { 0 } else { a - b }
 }
 
-// A rectangle grown on all sides.
+// A rectangle grown on all sides, cut off at 0.
 pub(crate) fn grow(r: Rect, by: u64) -> Rect
     requires { ⌜ (r .x2 + by ≤ 4 * widest) × (r .y2 + by ≤ 4 * widest) ⌝ }
     ensures { λ b. ⌜ b ≡ grown r by ⌝ }
@@ -32,7 +32,8 @@ pub(crate) fn grow(r: Rect, by: u64) -> Rect
     }
 }
 
-// The region of a shape.
+// The region of a shape. With a gap the squares that touch the shape, whose gap is 0,
+// are in the core too.
 fn region_of(k: Keepout) -> Region
     requires { ⌜ SmallKeepout k ⌝ }
     ensures { λ r. ⌜ r ≡ regionOf k ⌝ }

@@ -54,7 +54,7 @@ PrintedAlike = (h : Head) (g g′ : Gap) (rest : List ℕ) → MayBegin unitLimi
     printedFor (fileWith h g′ rest) ≡ printedFor (fileWith h g rest)
 
 -- document 02, request 6: a file that was accepted while corner gaps were square is answered by what stood then: head, rectangles and amounts. No
--- fillable area enters an answer, so all of it, the verdict too, is what it was; reply and buffer follow in the same way
+-- fillable area enters an answer, so all of it, the verdict too, is what it was; reply and buffer are functions of the same outcome
 abbrev pub AnsweredAsBefore : Type 0
 AnsweredAsBefore = (file : List ℕ) (st : Standing) → AcceptedBefore unitLimits file st →
     printedFor file ≡ textOf (answerFor (st .head) (rectangles (st .shapes)) (st .amounts))

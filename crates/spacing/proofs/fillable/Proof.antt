@@ -35,8 +35,8 @@ returns-2 c =
     let free = lists-none _ (s .args .b) _ _ _ (s .pre .0) (s .pre .1 .1) (l .ensures) _ (c .before .if2 .taken) (c .size .ensures) in
     (free, λ ks e. free ∙ regions-fillable (s .args .regions .now) ks (s .args .b) e)
 
-free-in-requires : tie.Need-free-in-requires
-free-in-requires c κs =
+free-by-requires : tie.Need-free-by-requires
+free-by-requires c κs =
     let s = c .before .before .before .before .before .before .before .before in
     let l = c .before .before .before .list-places .ensures in
     (lists-countable _ _ _ _ _ (s .pre .0) (s .pre .1 .1) l (full (c .before .before .before .before .before)), omega (arith, lists-length _ _ _ l, c .before .if2 .left))
@@ -44,11 +44,11 @@ free-in-requires c κs =
 returns-3 : tie.Need-returns-3
 returns-3 c =
     let s = c .before .before .before .before .before .before .before .before .before in
-    let free = lists-free _ (s .args .b) _ _ _ (s .pre .0) (s .pre .1 .1) (c .before .before .before .before .list-places .ensures) _ (c .free-in .ensures) in
+    let free = lists-free _ (s .args .b) _ _ _ (s .pre .0) (s .pre .1 .1) (c .before .before .before .before .list-places .ensures) _ (c .free-by .ensures) in
     (free, λ ks e. free ∙ regions-fillable (s .args .regions .now) ks (s .args .b) e)
 
 pub fillable-spec : {M : Type 1} → statement M
 fillable-spec =
     tie.close
     (tie.spec (λ c κs. search needs) returns (λ c. refl) list-places-requires (λ c κs. full (c .before .before .before .before)) returns-2
-    (λ c. c .before .before .list-places .ensures .within) (λ c. lists-length _ _ _ (c .before .before .before .list-places .ensures)) free-in-requires returns-3)
+    (λ c. c .before .before .list-places .ensures .within) (λ c. lists-length _ _ _ (c .before .before .before .list-places .ensures)) free-by-requires returns-3)

@@ -17,12 +17,12 @@ longer a u n h = omega arith
 in-middle-half-requires : tie.Need-in-middle-half-requires
 in-middle-half-requires c κs =
     let s = c .before .before .before .before in
-    (inside _ _ _ _ (s .pre .1 .1 .left) (s .pre .1 .1 .right) (c .before .before .before .share .ensures) (longer _ _ (c .before .if1 .left) (c .if2 .taken)), s .pre .1 .1 .right)
+    (inside _ _ _ _ (s .pre .1 .1 .left) (s .pre .1 .1 .right) (c .before .before .before .smaller-part .ensures) (longer _ _ (c .before .if1 .left) (c .if2 .taken)), s .pre .1 .1 .right)
 
 in-middle-half-requires-2 : tie.Need-in-middle-half-requires-2
 in-middle-half-requires-2 c κs =
     let s = c .before .before .before .before in
-    (inside _ _ _ _ (s .pre .1 .1 .low) (s .pre .1 .1 .high) (c .before .before .share2 .ensures) (omega arith), s .pre .1 .1 .high)
+    (inside _ _ _ _ (s .pre .1 .1 .low) (s .pre .1 .1 .high) (c .before .before .smaller-part2 .ensures) (omega arith), s .pre .1 .1 .high)
 
 pub choose-spec : {M : Type 1} → statement M
 choose-spec =
