@@ -7,8 +7,8 @@ use mathlib.Core.List.{List, [], _∷_, _++_}
 use native.Mathlib.Numerals.{add-one, add-two, add-three}
 use native.Mathlib.Omega.{arith}
 use lib.Dec.{T}
-use lib.ListN.{length, getD, take, drop, length-append, length-drop}
-use lib.Seq.{drop-cons, take-at, sets-eq, length-sets, length-take-le}
+use lib.ListN.{length, getD, take, drop, length-drop}
+use lib.Seq.{drop-cons, sets-eq}
 use Rattle.laws.proofs.Tests.{T-either, T-left, T-right}
 use Rattle.geometry.specs.declared.Rect.{Rect}
 use Rattle.geometry.specs.Layout.{holds, covered, Disjoint, rectsOf, withRect}
@@ -50,14 +50,6 @@ rects-end t i h = short-rects (drop i t) (omega (arith, length-drop i t))
 
 -- ---- a table that grows
 
-pub rects-few : (t : List ℕ) → 4 * length (rectsOf t) ≤ length t
-unfolding rectsOf
-rects-few [] = omega arith
-rects-few (a ∷ []) = omega arith
-rects-few (a ∷ b ∷ []) = omega arith
-rects-few (a ∷ b ∷ c ∷ []) = omega arith
-rects-few (a ∷ b ∷ c ∷ d ∷ s) = omega (arith, rects-few s)
-
 -- a table of k whole rectangles
 data Whole : ℕ → List ℕ → Type 0 where
   whole-none : Whole 0 []
@@ -72,14 +64,6 @@ whole (suc k) (a ∷ b ∷ []) e = absurd (omega arith)
 whole (suc k) (a ∷ b ∷ c ∷ []) e = absurd (omega arith)
 whole (suc k) (a ∷ b ∷ c ∷ d ∷ t) e = whole-four a b c d (whole k t (omega arith))
 
-pub rects-append : (k : ℕ) (t s : List ℕ) → length t ≡ 4 * k → rectsOf (t ++ s) ≡ rectsOf t ++ rectsOf s
-unfolding rectsOf
-rects-append k t s e = go (whole k t e)
-  where
-    go : {n : ℕ} {l : List ℕ} → Whole n l → rectsOf (l ++ s) ≡ rectsOf l ++ rectsOf s
-    go whole-none = refl
-    go (whole-four a b c d w) = ap (λ (rs : List Rect). record { x1 = a; y1 = b; x2 = c; y2 = d } ∷ rs) (go w)
-
 pub rects-length : (k : ℕ) (t : List ℕ) → length t ≡ 4 * k → length (rectsOf t) ≡ k
 unfolding rectsOf
 rects-length k t e = go (whole k t e)
@@ -89,12 +73,7 @@ rects-length k t e = go (whole k t e)
     go (whole-four a b c d w) = ap suc (go w)
 
 -- one rectangle more
-pub rects-more : (k : ℕ) (t : List ℕ) (a b c d : ℕ) → length t ≡ 4 * k →
-    rectsOf (t ++ a ∷ b ∷ c ∷ d ∷ []) ≡ rectsOf t ++ record { x1 = a; y1 = b; x2 = c; y2 = d } ∷ []
-unfolding rectsOf
-rects-more k t a b c d e = rects-append k t (a ∷ b ∷ c ∷ d ∷ []) e
-
-pub covered-append : (rs ss : List Rect) (x y : ℕ) → covered (rs ++ ss) x y ≡ (covered rs x y || covered ss x y)
+covered-append : (rs ss : List Rect) (x y : ℕ) → covered (rs ++ ss) x y ≡ (covered rs x y || covered ss x y)
 unfolding covered
 covered-append [] ss x y = refl
 covered-append (r ∷ rs) ss x y =
@@ -123,14 +102,3 @@ module _ (l : List ℕ) (c : ℕ) (r : Rect) (h : 4 * c + 4 ≤ length l) where
 
   pub stored-split : withRect l c r ≡ take (4 * c) l ++ fourOf r ++ drop (4 * suc c) l
   stored-split = rw (next, add-one, add-two, add-three) (sets-eq (fourOf r) l (4 * c) h)
-
-  front : length (take (4 * c) l ++ fourOf r) ≡ 4 * suc c
-  front = omega (arith, length-append (take (4 * c) l) (fourOf r), length-take-le (4 * c) l (omega arith))
-
-  pub stored-rects : rectsOf (take (4 * suc c) (withRect l c r)) ≡ rectsOf (take (4 * c) l) ++ (r ∷ [])
-  stored-rects =
-      ap rectsOf (ap (take (4 * suc c)) stored-split ∙ take-at (take (4 * c) l ++ fourOf r) (drop (4 * suc c) l) (4 * suc c) front)
-      ∙ rects-more c (take (4 * c) l) (r .x1) (r .y1) (r .x2) (r .y2) (length-take-le (4 * c) l (omega arith))
-
-  pub stored-length : length (withRect l c r) ≡ length l
-  stored-length = rw (add-one, add-two, add-three) (length-sets l (4 * c) (fourOf r))
