@@ -5,7 +5,8 @@ use Rattle.geometry.specs.declared.Sense.the-variants.{Greatest, Least}
 use Rattle.geometry.specs.Extreme.{spotNumbers}
 use Rattle.cases.specs.Row.{Row, row}
 use Rattle.cases.specs.JobA.{shapesA}
-use Rattle.extremes.specs.Exact.{windowArea, extreme}
+use Rattle.geometry.specs.Positions.{windowArea}
+use Rattle.extremes.specs.Exact.{extreme}
 
 -- case K: N 10, W 9
 abbrev pub shapesK : List Rect

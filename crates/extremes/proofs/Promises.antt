@@ -8,7 +8,8 @@ use Rattle.geometry.specs.declared.Spot.{Spot}
 use Rattle.geometry.specs.declared.Sense.{Sense}
 use Rattle.geometry.specs.Extreme.{Bounded}
 use Rattle.geometry.proofs.Extremes.{NoLater, not-better}
-use Rattle.extremes.specs.Exact.{windowArea, Position, extreme}
+use Rattle.geometry.specs.Positions.{windowArea, Position}
+use Rattle.extremes.specs.Exact.{extreme}
 use Rattle.extremes.proofs.Searches.{extreme-best}
 
 -- b is an extreme over all positions, with its window; for the greatest `none-better` says that no area is more than b's, for the least that

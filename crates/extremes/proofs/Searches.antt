@@ -15,7 +15,8 @@ use Rattle.geometry.specs.Layout.{Disjoint, rectsOf, Layer}
 use Rattle.buffers.specs.Written.{Front}
 use Rattle.geometry.specs.Extreme.{better, NoBetter, Bounded, spotAt}
 use Rattle.geometry.proofs.Extremes.{NoLater, not-better, better-neither, IsBest, Start, start-at, start-in, rows-best-of-all, best-of-fewer, best-same, best-unique, Dispensable}
-use Rattle.extremes.specs.Exact.{windowArea, positions, Position, extreme, exactRun}
+use Rattle.geometry.specs.Positions.{windowArea, positions, Position}
+use Rattle.extremes.specs.Exact.{extreme, exactRun}
 use Rattle.extremes.specs.Listing.{candidates}
 use Rattle.extremes.specs.Search.{leadingInRows, triedRow, searched}
 use Rattle.buffers.proofs.Fronts.{front-take}

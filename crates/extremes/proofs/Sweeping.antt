@@ -17,7 +17,7 @@ use Rattle.sweep.specs.Cursors.{frameAt, startFrame, Behind, ColumnsInOrder}
 use Rattle.sweep.proofs.Moving.{two-at, true-area, behind-start, behind-later, behind-moved}
 use Rattle.extremes.specs.declared.searching.Row.{Row}
 use Rattle.extremes.specs.declared.searching.Tried.{Tried}
-use Rattle.extremes.specs.Exact.{windowArea}
+use Rattle.geometry.specs.Positions.{windowArea}
 use Rattle.extremes.specs.Listing.{nearOf, farOf}
 use Rattle.extremes.specs.Search.{leading, folded, leadingInRow, stripArea, isReached, positionsOf, triedIn, triedRow, triedAt, triedBy, SmallRow}
 use Rattle.extremes.proofs.Steps.{folded-cong, folded-append}

@@ -1,30 +1,13 @@
--- Document 01, "Areas": the exact run's maximum and minimum over all window positions; and the shapes under a window, of document 02's request 2.
-use Prim.Native.Nat.{ℕ, suc, _-_, _≤_}
+-- Document 01, "Areas": the exact run's maximum and minimum over all window positions.
+use Prim.Native.Nat.{ℕ}
 use mathlib.Core.List.{List}
 use Rattle.geometry.specs.declared.Rect.{Rect}
 use Rattle.geometry.specs.declared.Spot.{Spot}
 use Rattle.geometry.specs.declared.Sense.{Sense}
 use Rattle.geometry.specs.declared.Sense.the-variants.{Greatest, Least}
-use Rattle.geometry.specs.Layout.{coveredArea, shapesUnder, windowBox}
+use Rattle.geometry.specs.Positions.{windowArea, positions}
 use Rattle.geometry.specs.Extreme.{spotAt, bestInRows}
 use Rattle.extremes.specs.declared.Extremes.{Extremes}
-
--- the area of the window at (x, y)
-abbrev pub windowArea : List Rect → ℕ → ℕ → ℕ → ℕ
-windowArea rs w x y = coveredArea rs (windowBox w x y)
-
--- the shapes under the window at (x, y); no search looks at them
-abbrev pub windowShapes : List Rect → ℕ → ℕ → ℕ → ℕ
-windowShapes rs w x y = shapesUnder rs (windowBox w x y)
-
--- the number of window positions on an axis: 0 to n − w
-abbrev pub positions : ℕ → ℕ → ℕ
-positions n w = suc (n - w)
-
--- (x, y) is a whole-number window position
-pub record Position (n w x y : ℕ) : Type 0 where
-  pub across : x ≤ n - w
-  pub down : y ≤ n - w
 
 -- the extreme over all positions, with its window of least y, then least x
 unfoldable pub extreme : Sense → List Rect → (n w : ℕ) → Spot

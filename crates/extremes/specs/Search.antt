@@ -14,7 +14,7 @@ use Rattle.sweep.specs.Strips.{stripSides, stripSum, Swept}
 use Rattle.sweep.specs.Cursors.{frameAt}
 use Rattle.extremes.specs.declared.searching.Row.{Row}
 use Rattle.extremes.specs.declared.searching.Tried.{Tried}
-use Rattle.extremes.specs.Exact.{windowArea}
+use Rattle.geometry.specs.Positions.{windowArea}
 use Rattle.extremes.specs.Listing.{nearOf, farOf, candidates}
 
 -- ---- the search among listed positions, in any order

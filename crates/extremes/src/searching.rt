@@ -7,7 +7,7 @@ ghost use lib.ListN.{length};
 ghost use Rattle.geometry.specs.Layout.{rectsOf};
 ghost use Rattle.sweep.specs.Strips.{stripRoom, Sides, Strip, Swept};
 ghost use Rattle.sweep.specs.Cursors.{Behind, ColumnsInOrder};
-ghost use Rattle.extremes.specs.Exact.{windowArea};
+ghost use Rattle.geometry.specs.Positions.{windowArea};
 ghost use Rattle.extremes.specs.Search.{earlier, leads, leading, leadingInRow};
 ghost use Rattle.extremes.specs.Search.{stripArea, triedAt, triedBy, positionsOf, triedIn, triedRow, SmallRow};
 use geometry::Sense;

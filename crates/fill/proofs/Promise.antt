@@ -21,7 +21,8 @@ use Rattle.fill.specs.declared.Failing.{Failing}
 use Rattle.fill.specs.declared.Failing.the-variants.{Nowhere, At}
 use Rattle.fill.specs.declared.Verdict.the-variants.{Safe, Broken}
 use Rattle.spacing.specs.Eligible.{tile}
-use Rattle.fill.specs.Judge.{load, standardTiles, bloatedTiles, shrunkTiles, keepsUpper, keepsLower, failingAt, startsAcross, standardFailing, marginFailing, judged, verdictOf}
+use Rattle.geometry.specs.Bounds.{keepsUpper, keepsLower}
+use Rattle.fill.specs.Judge.{load, standardTiles, bloatedTiles, shrunkTiles, failingAt, startsAcross, standardFailing, marginFailing, judged, verdictOf}
 use Rattle.fill.specs.Placement.{Placement, chosenArea, placedSum, keeps}
 use Rattle.fill.proofs.Tiles.{box-tiles}
 use Rattle.fill.proofs.Starts.{rows-none, rows-found, First}
@@ -33,8 +34,8 @@ nonsense e = absurd (omega arith)
 
 -- a start that fails no bound keeps both
 keeps-both : (plan : Plan) (i j forUpper forLower : ℕ) → failingAt plan i j forUpper forLower ≡ Nowhere →
-    T (keepsUpper plan forUpper) × T (keepsLower plan forLower)
-keeps-both plan i j forUpper forLower = go (keepsUpper plan forUpper) (keepsLower plan forLower)
+    T (keepsUpper (plan .upper) (plan .window) forUpper) × T (keepsLower (plan .lower) (plan .window) forLower)
+keeps-both plan i j forUpper forLower = go (keepsUpper (plan .upper) (plan .window) forUpper) (keepsLower (plan .lower) (plan .window) forLower)
   where
     go : (a b : Bool) → _≡_ {A = Failing} (elim a [ false ↦ At Over i j | true ↦ elim b [ false ↦ At Under i j | true ↦ Nowhere ] ]) Nowhere → T a × T b
     go true true e = (tt, tt)
@@ -52,9 +53,9 @@ pub record Breaks (b : Bound) (i j : ℕ) (plan : Plan) (total x y : ℕ) : Type
   pub broken : T (keeps b plan total) → ⊥
 
 failed-one : (b : Bound) (i j : ℕ) (plan : Plan) (x y total : ℕ) → failingAt plan x y total total ≡ At b i j → Breaks b i j plan total x y
-failed-one b i j plan x y total e = go (keepsUpper plan total) refl (keepsLower plan total) refl e
+failed-one b i j plan x y total e = go (keepsUpper (plan .upper) (plan .window) total) refl (keepsLower (plan .lower) (plan .window) total) refl e
   where
-    go : (p : Bool) → keepsUpper plan total ≡ p → (q : Bool) → keepsLower plan total ≡ q →
+    go : (p : Bool) → keepsUpper (plan .upper) (plan .window) total ≡ p → (q : Bool) → keepsLower (plan .lower) (plan .window) total ≡ q →
         _≡_ {A = Failing} (elim p [ false ↦ At Over x y | true ↦ elim q [ false ↦ At Under x y | true ↦ Nowhere ] ]) (At b i j) → Breaks b i j plan total x y
     go false s q t e =
         let over : _≡_ {A = Bound} Over b = cc in
@@ -97,11 +98,11 @@ reach side i cut across w x e h k = go (le-or-lt (suc (i + cut)) across)
     go (inl l) = rw (min-eq-left l) (omega (arith, suc-mul (i + cut) side, add-mul i cut side))
     go (inr l) = rw (min-eq-right (le-of-lt l)) k
 
-keeps-less : (plan : Plan) (s t : ℕ) → s ≤ t → T (keepsUpper plan t) → T (keepsUpper plan s)
+keeps-less : (plan : Plan) (s t : ℕ) → s ≤ t → T (keepsUpper (plan .upper) (plan .window) t) → T (keepsUpper (plan .upper) (plan .window) s)
 keeps-less plan s t h k =
     let most = plan .upper * plan .window * plan .window in le→leb (10000 * s) most (omega (arith, leb→le (10000 * t) most k))
 
-keeps-more : (plan : Plan) (s t : ℕ) → s ≤ t → T (keepsLower plan s) → T (keepsLower plan t)
+keeps-more : (plan : Plan) (s t : ℕ) → s ≤ t → T (keepsLower (plan .lower) (plan .window) s) → T (keepsLower (plan .lower) (plan .window) t)
 keeps-more plan s t h k =
     let least = plan .lower * plan .window * plan .window in le→leb least (10000 * t) (omega (arith, leb→le least (10000 * s) k))
 
@@ -207,7 +208,7 @@ module _ (ks : List Keepout) (rs : List Rect) (amounts : List ℕ) (plan : Plan)
       forLower : ℕ
       forLower = boxSum (shrunkTiles plan (x / side) (y / side)) loads
 
-      both : T (keepsUpper plan forUpper) × T (keepsLower plan forLower)
+      both : T (keepsUpper (plan .upper) (plan .window) forUpper) × T (keepsLower (plan .lower) (plan .window) forLower)
       both =
           keeps-both plan (x / side) (y / side) forUpper forLower
           (rows-none (λ i j. failingAt plan i j (boxSum (bloatedTiles plan i j) loads) (boxSum (shrunkTiles plan i j) loads)) (startsAcross plan)

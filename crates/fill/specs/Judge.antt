@@ -3,10 +3,10 @@
 use Prim.Native.Nat.{ℕ, zero, suc, _+_, _-_, _*_, min}
 use mathlib.Core.Bool.{Bool, true, false}
 use mathlib.Core.List.{List, [], _∷_}
-use lib.Dec.{leb}
 use lib.ListN.{getD}
 use Rattle.geometry.specs.declared.Rect.{Rect}
 use Rattle.geometry.specs.Count.{boxSum}
+use Rattle.geometry.specs.Bounds.{keepsUpper, keepsLower}
 use Rattle.geometry.specs.Layout.{coveredArea}
 use Rattle.fill.specs.declared.Plan.{Plan}
 use Rattle.fill.specs.declared.Bound.{Bound}
@@ -43,17 +43,13 @@ bloatedTiles plan i j = record { x1 = i; y1 = j; x2 = min (suc (i + plan .cut)) 
 abbrev pub shrunkTiles : Plan → (i j : ℕ) → TileBox
 shrunkTiles plan i j = record { x1 = suc i; y1 = suc j; x2 = i + plan .cut; y2 = j + plan .cut }
 
--- a sum keeps the upper bound U, or the lower bound L, ten-thousandths of W × W
-abbrev pub keepsUpper : Plan → (total : ℕ) → Bool
-keepsUpper plan total = leb (10000 * total) (plan .upper * plan .window * plan .window)
-
-abbrev pub keepsLower : Plan → (total : ℕ) → Bool
-keepsLower plan total = leb (plan .lower * plan .window * plan .window) (10000 * total)
-
 -- the bound that a start fails, U before L, by the sums that U and L are judged by
 abbrev pub failingAt : Plan → (i j forUpper forLower : ℕ) → Failing
 failingAt plan i j forUpper forLower =
-    elim (keepsUpper plan forUpper) [ false ↦ At Over i j | true ↦ elim (keepsLower plan forLower) [ false ↦ At Under i j | true ↦ Nowhere ] ]
+    elim (keepsUpper (plan .upper) (plan .window) forUpper) [
+      | false ↦ At Over i j
+      | true ↦ elim (keepsLower (plan .lower) (plan .window) forLower) [ false ↦ At Under i j | true ↦ Nowhere ]
+    ]
 
 -- the earlier of two failing starts
 abbrev pub orElse : Failing → Failing → Failing

@@ -12,7 +12,8 @@ use Rattle.spacing.specs.declared.Keepout.{Keepout}
 use Rattle.fill.specs.declared.Plan.{Plan}
 use Rattle.fill.specs.declared.Bound.{Bound}
 use Rattle.fill.specs.declared.Bound.the-variants.{Over, Under}
-use Rattle.fill.specs.Judge.{numberAt, keepsUpper, keepsLower}
+use Rattle.geometry.specs.Bounds.{keepsUpper, keepsLower}
+use Rattle.fill.specs.Judge.{numberAt}
 
 -- the number of chosen unit squares in a box
 abbrev pub chosenArea : (ℕ → ℕ → Bool) → Rect → ℕ
@@ -29,5 +30,5 @@ placedSum rs chosen w x y = coveredArea rs (windowBox w x y) + chosenArea chosen
 
 -- whether the sum keeps a bound: U for over, L for under; a position breaks a bound that its sum does not keep
 abbrev pub keeps : Bound → Plan → (total : ℕ) → Bool
-keeps Over plan total = keepsUpper plan total
-keeps Under plan total = keepsLower plan total
+keeps Over plan total = keepsUpper (plan .upper) (plan .window) total
+keeps Under plan total = keepsLower (plan .lower) (plan .window) total

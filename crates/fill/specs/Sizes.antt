@@ -4,7 +4,7 @@ use Prim.Native.Nat.{ℕ, suc, _+_, _*_, _≤_, _<_}
 use mathlib.Core.Path.{_≡_}
 use mathlib.Core.List.{List}
 use lib.ListN.{length, getD}
-use Rattle.geometry.specs.Sizes.{widest, largest}
+use Rattle.geometry.specs.Sizes.{widest, largest, topBound}
 use Rattle.geometry.specs.Layout.{Layer}
 use Rattle.sweep.specs.Strips.{stripSum}
 use Rattle.fill.specs.declared.Plan.{Plan}
@@ -19,10 +19,6 @@ tilesRoom = mostAcross * mostAcross
 -- the load of all tiles together: 10,000 times 2^50 fits 64 bits
 abbrev pub heaviest : ℕ
 heaviest = 1125899906842624
-
--- L and U, in ten-thousandths
-abbrev pub topBound : ℕ
-topBound = 10000
 
 -- a layout whose loads are formed: its rectangles, and an amount for each of its tiles, at most `mostAcross` across
 pub record Tiled (rects amounts : List ℕ) (plan : Plan) : Type 0 where

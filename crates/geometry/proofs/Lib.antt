@@ -4,3 +4,5 @@ pub mod Tables
 pub mod Totals
 pub mod Extremes
 pub mod Sharing
+pub mod Cutting
+pub mod Bends

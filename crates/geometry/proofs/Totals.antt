@@ -1,6 +1,6 @@
 -- Sums that a loop forms over a table of rectangles, four numbers each, and that 64 bits hold them.
 use Prim.Native.Nat.{ℕ, _+_, _*_, _^_, _≤_, _<_}
-use mathlib.Core.Path.{_≡_, sym, ap, ap₂, _∙_}
+use mathlib.Core.Path.{_≡_, sym, ap, ap₂, _∙_, subst}
 use mathlib.Core.List.{List, [], _∷_}
 use native.Mathlib.Nat.{zero-add, mul-le-mul}
 use native.Mathlib.Omega.{arith}
@@ -8,7 +8,7 @@ use lib.Dec.{ltb}
 use lib.ListN.{length, getD, drop}
 use Rattle.geometry.specs.declared.Rect.{Rect}
 use Rattle.geometry.specs.declared.Cover.{Cover}
-use Rattle.geometry.specs.Sizes.{widest, largest, SmallList}
+use Rattle.geometry.specs.Sizes.{widest, largest, SmallList, SmallRect}
 use Rattle.geometry.specs.Count.{one-if, rectSum}
 use Rattle.geometry.specs.Layout.{sharesSquare, shapesUnder, coverOf, rectsOf, Layer}
 use Rattle.geometry.specs.Overlaps.{rectAt, common, overlap, overlapSum}
@@ -42,11 +42,17 @@ product-fits x y u v p q h = rw (p, q) (omega arith)
 common-small : (a b c d : ℕ) → b ≤ widest → common a b c d ≤ widest
 common-small a b c d h = omega arith
 
-pub overlap-small : (t : List ℕ) (i : ℕ) (b : Rect) → SmallList t → overlap (rectAt t i) b ≤ largest
-overlap-small t i b d =
-    small-product (common (getD t i 0) (getD t (i + 2) 0) (b .x1) (b .x2)) (common (getD t (i + 1) 0) (getD t (i + 3) 0) (b .y1) (b .y2))
-    (common-small (getD t i 0) (getD t (i + 2) 0) (b .x1) (b .x2) (d .small (i + 2)))
-    (common-small (getD t (i + 1) 0) (getD t (i + 3) 0) (b .y1) (b .y2) (d .small (i + 3)))
+pub overlap-small : (r b : Rect) → SmallRect r → overlap r b ≤ largest
+overlap-small r b d =
+    small-product (common (r .x1) (r .x2) (b .x1) (b .x2)) (common (r .y1) (r .y2) (b .y1) (b .y2))
+    (common-small (r .x1) (r .x2) (b .x1) (b .x2) (d .right)) (common-small (r .y1) (r .y2) (b .y1) (b .y2) (d .high))
+
+rect-small : (t : List ℕ) (i : ℕ) → SmallList t → SmallRect (rectAt t i)
+rect-small t i d = record { right = d .small (i + 2); high = d .small (i + 3) }
+
+-- a rectangle that was read from a layer's table
+pub at-small : (t : List ℕ) (i : ℕ) (r : Rect) → Layer t → r ≡ rectAt t i → SmallRect r
+at-small t i r d e = subst SmallRect (sym e) (rect-small t i (record { small = d .small }))
 
 -- a sum over the rectangles of a table: one rectangle more, and the end
 rects-sum-next : (f : Rect → ℕ) (t : List ℕ) (total i v : ℕ) → SoFar (λ s. rectSum (rectsOf s) f) t total i → i + 3 < length t →
@@ -74,7 +80,7 @@ pub cover-next : (t : List ℕ) (b : Rect) (total count i v k : ℕ) → SmallLi
     v ≡ overlap (rectAt t i) b → k ≡ one-if (ltb 0 v) → CoverSoFar t b (total + v) (count + k) (i + 4)
 cover-next t b total count i v k d s h e c =
     record {
-      area = rects-sum-next (λ r. overlap r b) t total i v (s .area) h e (omega (arith, e, overlap-small t i b d));
+      area = rects-sum-next (λ r. overlap r b) t total i v (s .area) h e (omega (arith, e, overlap-small (rectAt t i) b (rect-small t i d)));
       shapes =
           rects-sum-next (λ r. one-if (sharesSquare (r ∷ []) b)) t count i k (s .shapes) h
           (c ∙ ap (λ (n : ℕ). one-if (ltb 0 n)) e ∙ ap one-if (sym (shares-overlap (rectAt t i) b)))

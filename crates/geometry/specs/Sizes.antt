@@ -3,6 +3,7 @@
 use Prim.Native.Nat.{ℕ, _*_, _≤_}
 use mathlib.Core.List.{List}
 use lib.ListN.{getD}
+use Rattle.geometry.specs.declared.Rect.{Rect}
 
 -- no coordinate and no side past 2^20, so no area past 2^40
 abbrev pub widest : ℕ
@@ -18,6 +19,15 @@ mostRects = 1024
 abbrev pub rectsRoom : ℕ
 rectsRoom = 4 * mostRects
 
+-- L and U, in ten-thousandths
+abbrev pub topBound : ℕ
+topBound = 10000
+
 -- no number of a list is past the widest
 pub record SmallList (l : List ℕ) : Type 0 where
   pub small : (i : ℕ) → getD l i 0 ≤ widest
+
+-- a rectangle that ends where coordinates are small
+pub record SmallRect (r : Rect) : Type 0 where
+  pub right : r .x2 ≤ widest
+  pub high : r .y2 ≤ widest

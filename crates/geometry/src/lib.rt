@@ -1,14 +1,22 @@
 // Rectangles, the covered area of a box and the shapes under it, and what a
 // search for an extreme finds.
 
-ghost use Prim.Native.Nat.{_+_, _*_, _^_, _≤_, _<_, min, max};
+ghost use Prim.Native.Nat.{_+_, _-_, _*_, _^_, _≤_, _<_, min, max};
 ghost use mathlib.Core.Path.{_≡_};
 ghost use lib.ListN.{length};
-ghost use Rattle.geometry.specs.Sizes.{SmallList};
+ghost use Rattle.geometry.specs.Sizes.{SmallRect};
 ghost use Rattle.geometry.specs.Count.{one-if};
 ghost use Rattle.geometry.specs.Layout.{rectsOf, withRect, sharesSquare, coverOf, windowBox, Layer};
 ghost use Rattle.geometry.specs.Overlaps.{rectAt, common, overlap};
 ghost use Rattle.geometry.specs.Extreme.{better, replaced};
+
+mod cuts;
+
+pub use cuts::box_size;
+pub use cuts::nearer_middle;
+pub use cuts::part_before;
+pub use cuts::part_behind;
+pub use cuts::smaller_part;
 
 // How many rectangles a layer may have.
 pub const MOST_RECTS: usize = 1024;
@@ -20,6 +28,18 @@ pub struct Rect {
     pub y1: u64,
     pub x2: u64,
     pub y2: u64,
+}
+
+// Where a box is cut in two.
+pub enum Cut {
+    Column(u64),
+    Row(u64),
+}
+
+// Lines that a box may be cut at, one on each axis; its low side where there is none.
+pub struct Lines {
+    pub column: u64,
+    pub row: u64,
 }
 
 // The metal in a box: the covered area, and how many rectangles share a unit
@@ -63,14 +83,33 @@ pub fn common_length(a: u64, b: u64, c: u64, d: u64) -> u64
     if start < end { end - start } else { 0 }
 }
 
-// The unit squares that the rectangle at place i of a table shares with a box.
-fn overlap_at(rects: &[u64], i: usize, b: Rect) -> u64
-    requires { ⌜ i + 3 < length (now rects) ⌝ }
-    requires { ⌜ SmallList (now rects) ⌝ }
-    ensures { λ r. ⌜ r ≡ overlap (rectAt (now (rects .entry)) i) b ⌝ }
+// The difference, 0 where it would be below 0.
+pub fn less(a: u64, b: u64) -> u64
+    ensures { λ r. ⌜ r ≡ a - b ⌝ }
 {
-    let across = common_length(rects[i], rects[i + 2], b.x1, b.x2);
-    let down = common_length(rects[i + 1], rects[i + 3], b.y1, b.y2);
+    if a < b { 0 } else { a - b }
+}
+
+// The rectangle whose numbers stand from place i of a table.
+pub fn rect_at(rects: &[u64], i: usize) -> Rect
+    requires { ⌜ i + 3 < length (now rects) ⌝ }
+    ensures { λ r. ⌜ r ≡ rectAt (now (rects .entry)) i ⌝ }
+{
+    Rect {
+        x1: rects[i],
+        y1: rects[i + 1],
+        x2: rects[i + 2],
+        y2: rects[i + 3],
+    }
+}
+
+// The unit squares that a rectangle shares with a box.
+pub fn overlap_of(r: Rect, b: Rect) -> u64
+    requires { ⌜ SmallRect r ⌝ }
+    ensures { λ n. ⌜ n ≡ overlap r b ⌝ }
+{
+    let across = common_length(r.x1, r.x2, b.x1, b.x2);
+    let down = common_length(r.y1, r.y2, b.y1, b.y2);
     across * down
 }
 
@@ -115,7 +154,7 @@ pub fn cover_of(rects: &[u64], b: Rect) -> Cover
     let mut shapes: u64 = 0;
     let mut i: usize = 0;
     while i + 3 < rects.len() {
-        let shared = overlap_at(rects, i, b);
+        let shared = overlap_of(rect_at(rects, i), b);
         area += shared;
         shapes += one_if(0 < shared);
         i += 4;

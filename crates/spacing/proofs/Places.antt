@@ -18,7 +18,8 @@ use Rattle.spacing.specs.declared.Region.{Region}
 use Rattle.spacing.specs.declared.Part.{Part}
 use Rattle.spacing.specs.Free.{regionAt, holdsSquare, placesFrom, placesOf, placesIn, heldBy, freeBy, freeIn, AgreeOn, Serves}
 use Rattle.spacing.specs.Counting.{isNear, coversBox, isIdle, isSpare, Listed, Lists, Countable, Divisible, Enough}
-use Rattle.spacing.specs.Sizes.{regionNumbers, FullBox, SmallTable, liveRoom}
+use Rattle.geometry.specs.Cuts.{FullBox}
+use Rattle.spacing.specs.Sizes.{regionNumbers, SmallTable, liveRoom}
 use Rattle.spacing.proofs.SmallRegions.{region-small}
 use Rattle.spacing.proofs.Distances.{none-held, all-held, some-held}
 use Rattle.spacing.proofs.Gains.{idle-held}

@@ -6,7 +6,8 @@ use native.Mathlib.Omega.{arith}
 use Rattle.geometry.specs.declared.Rect.{Rect}
 use Rattle.spacing.specs.declared.Region.{Region}
 use Rattle.spacing.specs.Free.{regionAt}
-use Rattle.spacing.specs.Sizes.{SmallBox, FullBox, SmallTable, SmallRegion}
+use Rattle.geometry.specs.Cuts.{FullBox}
+use Rattle.spacing.specs.Sizes.{SmallBox, SmallTable, SmallRegion}
 
 pub region-small : (t : List ℕ) (at : ℕ) (r : Region) → SmallTable t → r ≡ regionAt t at → SmallRegion r
 region-small t at r s e =

@@ -1,6 +1,6 @@
 -- What 64 bits ask of a caller: no side past 2^20. A buyer need not read it: no contract of the unit's public functions names it, and every
 -- accepted job has it.
-use Prim.Native.Nat.{ℕ, _*_, _≤_, _<_}
+use Prim.Native.Nat.{ℕ, _*_, _≤_}
 use mathlib.Core.Path.{_≡_}
 use mathlib.Core.List.{List}
 use lib.ListN.{length, getD}
@@ -22,13 +22,6 @@ pub record SmallKeepout (k : Keepout) : Type 0 where
 pub record SmallBox (b : Rect) : Type 0 where
   pub across : b .x1 ≤ b .x2
   pub up : b .y1 ≤ b .y2
-  pub right : b .x2 ≤ widest
-  pub high : b .y2 ≤ widest
-
--- a box that has squares, and whose size is formed
-pub record FullBox (b : Rect) : Type 0 where
-  pub across : b .x1 < b .x2
-  pub up : b .y1 < b .y2
   pub right : b .x2 ≤ widest
   pub high : b .y2 ≤ widest
 

@@ -2,45 +2,21 @@
 // straight edge of a region, which then no longer crosses either part. One outside
 // the middle half of the box is moved there, so that the parts get small soon, and
 // the edge is met in a later cut.
-use crate::Cut;
-use crate::Lines;
 use crate::Region;
 use crate::live::listed_region;
 use crate::regions::grow;
-use crate::regions::less;
+use geometry::Cut;
+use geometry::Lines;
 use geometry::Rect;
-use geometry::smaller;
-ghost use Prim.Native.Nat.{_-_, _≤_, _<_, min};
+use geometry::less;
+use geometry::nearer_middle;
+use geometry::smaller_part;
+ghost use Prim.Native.Nat.{_-_, _<_};
 ghost use mathlib.Core.Path.{_≡_};
+ghost use Rattle.geometry.specs.Cuts.{FullBox, InBox, Cuts};
 ghost use Rattle.spacing.specs.Free.{grown};
-ghost use Rattle.spacing.specs.Counting.{Countable, Divisible, InBox, Cuts, before, behind};
-ghost use Rattle.spacing.specs.Sizes.{FullBox, SmallRegion};
-
-// The smaller of the two parts of a side.
-fn smaller_part(low: u64, high: u64, at: u64) -> u64
-    requires { ⌜ (low ≤ at) × (at < high) ⌝ }
-    ensures { λ r. ⌜ r ≡ min (at - low) (high - at) ⌝ }
-{
-    smaller(at - low, high - at)
-}
-
-// Of the line so far and another one that nearer the middle; one that does not cross
-// the side is not taken.
-fn nearer_middle(low: u64, high: u64, line: u64, at: u64) -> u64
-    requires { ⌜ (low ≤ line) × (line < high) ⌝ }
-    ensures { λ r. ⌜ (low ≤ r) × (r < high) ⌝ }
-{
-    if at <= low {
-        return line;
-    }
-    if high <= at {
-        return line;
-    }
-    if smaller_part(low, high, at) <= smaller_part(low, high, line) {
-        return line;
-    }
-    at
-}
+ghost use Rattle.spacing.specs.Counting.{Countable, Divisible};
+ghost use Rattle.spacing.specs.Sizes.{SmallRegion};
 
 // The better of the lines so far and a rectangle's sides.
 fn offer(l: Lines, b: Rect, r: Rect) -> Lines
@@ -153,24 +129,4 @@ pub(crate) fn cut_for(regions: &[u64], places: &[u16], b: Rect) -> Cut
 {
     let lines = lines_for(regions, places, b);
     choose(b, lines)
-}
-
-// The part of a box before a cut.
-pub(crate) fn part_before(b: Rect, c: Cut) -> Rect
-    ensures { λ r. ⌜ r ≡ before b c ⌝ }
-{
-    match c {
-        Cut::Column(x) => Rect { x2: x, ..b },
-        Cut::Row(y) => Rect { y2: y, ..b },
-    }
-}
-
-// The part behind it.
-pub(crate) fn part_behind(b: Rect, c: Cut) -> Rect
-    ensures { λ r. ⌜ r ≡ behind b c ⌝ }
-{
-    match c {
-        Cut::Column(x) => Rect { x1: x, ..b },
-        Cut::Row(y) => Rect { y1: y, ..b },
-    }
 }

@@ -1,6 +1,7 @@
 // What shapes keep free of fill: regions with round corners, and the squares of a
 // tile outside of them.
 use geometry::Rect;
+use geometry::box_size;
 use geometry::window_box;
 ghost use Prim.Native.Nat.{suc, _*_, _≤_};
 ghost use mathlib.Core.Path.{_≡_};
@@ -52,18 +53,6 @@ enum Settled {
     Area(u64),
 }
 
-// Where a box is cut in two.
-enum Cut {
-    Column(u64),
-    Row(u64),
-}
-
-// Lines that a box may be cut at, one on each axis; its low side where there is none.
-struct Lines {
-    column: u64,
-    row: u64,
-}
-
 // The box of a tile.
 pub fn tile_box(side: u64, i: u64, j: u64) -> Rect
     requires { ⌜ (suc i * side ≤ widest) × (suc j * side ≤ widest) ⌝ }
@@ -89,7 +78,7 @@ pub fn fillable(regions: &[u64], near: Part, b: Rect) -> u64
     let count = live::list_places(near, &mut places);
     // Without a region there is no lead; before the first cut any will do.
     if count == 0 {
-        return free::size(b);
+        return box_size(b);
     }
     free::free_by(regions, &places[..count], 0, b)
 }

@@ -4,6 +4,7 @@ use crate::Keepout;
 use crate::Region;
 use geometry::Rect;
 use geometry::larger;
+use geometry::less;
 use geometry::smaller;
 ghost use Prim.Native.Nat.{_+_, _-_, _*_, _≤_, _<_};
 ghost use mathlib.Core.Path.{_≡_};
@@ -11,13 +12,6 @@ ghost use lib.ListN.{length};
 ghost use Rattle.geometry.specs.Sizes.{widest};
 ghost use Rattle.spacing.specs.Free.{grown, regionAt, regionOf, withNumbers, withRegion};
 ghost use Rattle.spacing.specs.Sizes.{regionNumbers, SmallKeepout};
-
-// The difference, 0 where it would be below 0.
-pub(crate) fn less(a: u64, b: u64) -> u64
-    ensures { λ r. ⌜ r ≡ a - b ⌝ }
-{
-    if a < b { 0 } else { a - b }
-}
 
 // A rectangle grown on all sides, cut off at 0.
 pub(crate) fn grow(r: Rect, by: u64) -> Rect

@@ -11,7 +11,8 @@ use Rattle.geometry.specs.Sizes.{largest}
 use Rattle.geometry.specs.Layout.{rectsOf}
 use Rattle.extremes.specs.declared.Extremes.{Extremes}
 use Rattle.sweep.specs.Strips.{Swept}
-use Rattle.extremes.specs.Exact.{Position, extreme, exactRun}
+use Rattle.geometry.specs.Positions.{Position}
+use Rattle.extremes.specs.Exact.{extreme, exactRun}
 use Rattle.extremes.proofs.Promises.{extreme-over-all}
 use Rattle.zoom.specs.declared.Quick.{Quick}
 use Rattle.zoom.specs.Run.{density}

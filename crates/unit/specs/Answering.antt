@@ -7,7 +7,8 @@ use Rattle.geometry.specs.declared.Sense.{Sense}
 use Rattle.geometry.specs.declared.Sense.the-variants.{Greatest, Least}
 use Rattle.geometry.specs.Extreme.{spotNumbers}
 use Rattle.extremes.specs.declared.Extremes.{Extremes}
-use Rattle.extremes.specs.Exact.{windowShapes, exactRun}
+use Rattle.geometry.specs.Positions.{windowShapes}
+use Rattle.extremes.specs.Exact.{exactRun}
 use Rattle.zoom.specs.declared.End.{End}
 use Rattle.zoom.specs.declared.End.the-variants.{Met, Stopped, Exact}
 use Rattle.zoom.specs.declared.Level.{Level}

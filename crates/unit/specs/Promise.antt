@@ -12,7 +12,8 @@ use Rattle.geometry.specs.declared.Spot.{Spot}
 use Rattle.geometry.specs.declared.Sense.{Sense}
 use Rattle.geometry.specs.Layout.{holds}
 use Rattle.geometry.specs.Extreme.{Bounded}
-use Rattle.extremes.specs.Exact.{windowArea, windowShapes, Position, extremeIn}
+use Rattle.geometry.specs.Positions.{windowArea, windowShapes, Position}
+use Rattle.extremes.specs.Exact.{extremeIn}
 use Rattle.zoom.specs.declared.Level.{Level}
 use Rattle.zoom.specs.declared.Quick.{Quick}
 use Rattle.zoom.specs.Run.{lastLevel, levelStep, levelAt, lowEnd, highEnd, Brackets, Narrows, endNumber}

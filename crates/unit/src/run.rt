@@ -10,7 +10,7 @@ use zoom::Quick;
 ghost use mathlib.Core.Path.{_≡_};
 ghost use Rattle.geometry.specs.Layout.{rectsOf, Layer};
 ghost use Rattle.sweep.specs.Strips.{Swept};
-ghost use Rattle.extremes.specs.Exact.{windowShapes};
+ghost use Rattle.geometry.specs.Positions.{windowShapes};
 ghost use Rattle.unit.specs.Answering.{countsOf, answerFor};
 ghost use Rattle.unit.specs.Ready.{SmallSpot, SmallSpots, Ready};
 

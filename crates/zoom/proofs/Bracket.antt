@@ -21,7 +21,8 @@ use Rattle.geometry.proofs.Counting.{sum-cong, sum-zero}
 use Rattle.geometry.proofs.Totals.{small-product}
 use Rattle.geometry.proofs.Overlaps.{area-small, nothing-covered}
 use Rattle.geometry.proofs.Extremes.{better-self, step-better, step-skip}
-use Rattle.extremes.specs.Exact.{windowArea, extreme}
+use Rattle.geometry.specs.Positions.{windowArea}
+use Rattle.extremes.specs.Exact.{extreme}
 use Rattle.extremes.proofs.Searches.{position, extreme-best}
 use Rattle.extremes.proofs.Promises.{extreme-over-all}
 use Rattle.zoom.specs.declared.End.the-variants.{Met}

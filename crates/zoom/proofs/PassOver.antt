@@ -17,7 +17,7 @@ use Rattle.geometry.specs.declared.Sense.{Sense}
 use Rattle.geometry.specs.Count.{one-if}
 use Rattle.geometry.specs.Extreme.{better, spotAt, replaced, bestInRows, NoBetter, Bounded}
 use Rattle.geometry.proofs.Extremes.{step-skip, bounded}
-use Rattle.extremes.specs.Exact.{windowArea}
+use Rattle.geometry.specs.Positions.{windowArea}
 use Rattle.zoom.specs.Run.{levelStep, startsOn, farWindow, farArea, levelOf, levelAt}
 use Rattle.zoom.specs.Passing.{flagOf, flagsInRow, flagsInRows, Harmless}
 use Rattle.zoom.proofs.Folds.{no-better-trans, rows-see, rows-forget}

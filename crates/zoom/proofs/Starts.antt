@@ -13,7 +13,7 @@ use Rattle.geometry.specs.Count.{one-if}
 use Rattle.geometry.specs.Layout.{covered, coveredArea}
 use Rattle.geometry.specs.Extreme.{spotAt, NoBetter}
 use Rattle.geometry.proofs.Counting.{box-within}
-use Rattle.extremes.specs.Exact.{windowArea}
+use Rattle.geometry.specs.Positions.{windowArea}
 use Rattle.zoom.specs.Run.{startsOn, farWindow, farArea}
 use Rattle.zoom.specs.Grid.{AtStart}
 

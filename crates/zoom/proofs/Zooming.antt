@@ -19,7 +19,8 @@ use Rattle.geometry.specs.declared.Sense.{Sense}
 use Rattle.geometry.specs.Count.{sum, one-if}
 use Rattle.geometry.specs.Layout.{rectsOf}
 use Rattle.geometry.specs.Extreme.{better, spotAt, replaced, bestInRows, NoBetter}
-use Rattle.extremes.specs.Exact.{windowArea, extreme}
+use Rattle.geometry.specs.Positions.{windowArea}
+use Rattle.extremes.specs.Exact.{extreme}
 use Rattle.zoom.specs.declared.Level.{Level}
 use Rattle.zoom.specs.declared.End.the-variants.{Met, Stopped, Exact}
 use Rattle.zoom.specs.declared.Quick.{Quick}

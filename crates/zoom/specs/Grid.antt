@@ -6,7 +6,7 @@ use Rattle.geometry.specs.declared.Rect.{Rect}
 use Rattle.geometry.specs.declared.Spot.{Spot}
 use Rattle.geometry.specs.Layout.{rectsOf}
 use Rattle.geometry.specs.Extreme.{spotAt}
-use Rattle.extremes.specs.Exact.{windowArea}
+use Rattle.geometry.specs.Positions.{windowArea}
 use Rattle.zoom.specs.declared.Grid.{Grid}
 use Rattle.zoom.specs.Run.{startsOn, farArea}
 use Rattle.geometry.specs.Sizes.{widest}

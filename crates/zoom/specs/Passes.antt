@@ -8,7 +8,7 @@ use Rattle.geometry.specs.declared.Sense.{Sense}
 use Rattle.geometry.specs.Extreme.{replaced, bestInRow, bestInRows}
 use Rattle.geometry.specs.Layout.{rectsOf}
 use Rattle.sweep.specs.Strips.{Strip}
-use Rattle.extremes.specs.Exact.{windowArea}
+use Rattle.geometry.specs.Positions.{windowArea}
 use Rattle.zoom.specs.declared.Grid.{Grid}
 use Rattle.zoom.specs.declared.Level.{Level}
 use Rattle.zoom.specs.declared.Pass.{Pass}

@@ -15,7 +15,8 @@ use Rattle.geometry.specs.declared.Sense.the-variants.{Greatest, Least}
 use Rattle.geometry.specs.Count.{sum, one-if}
 use Rattle.geometry.specs.Layout.{coveredArea}
 use Rattle.geometry.specs.Extreme.{better, spotAt, replaced, bestInRows}
-use Rattle.extremes.specs.Exact.{windowArea, extreme}
+use Rattle.geometry.specs.Positions.{windowArea}
+use Rattle.extremes.specs.Exact.{extreme}
 use Rattle.zoom.specs.declared.End.{End}
 use Rattle.zoom.specs.declared.End.the-variants.{Met, Stopped, Exact}
 use Rattle.zoom.specs.declared.Level.{Level}

@@ -8,7 +8,7 @@ use lib.ListN.{length, drop}
 use Rattle.geometry.specs.Layout.{rectsOf}
 use Rattle.geometry.specs.Extreme.{spotAt}
 use Rattle.sweep.specs.Strips.{stripRoom}
-use Rattle.extremes.specs.Exact.{windowArea}
+use Rattle.geometry.specs.Positions.{windowArea}
 use Rattle.extremes.specs.Search.{leadingInRows, triedRow}
 use Rattle.extremes.proofs.Steps.{small-at, rows-start, folded-next, folded-end}
 use Rattle.extremes.proofs.search.Statement.{statement}

@@ -4,7 +4,7 @@ use mathlib.Core.Path.{_∙_}
 use native.Mathlib.Omega.{arith}
 use borrow.Author.Needs.{needs}
 use Rattle.geometry.specs.Sizes.{widest}
-use Rattle.fill.specs.Sizes.{topBound}
+use Rattle.geometry.specs.Sizes.{topBound}
 use Rattle.fill.proofs.Loads.{bound-fits, tiles-few, table-light}
 use Rattle.fill.proofs.Summing.{plan-sums, sums-verdict}
 use Rattle.fill.proofs.judge.Statement.{statement}

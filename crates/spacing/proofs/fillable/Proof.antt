@@ -2,7 +2,7 @@
 use mathlib.Core.Path.{refl, _∙_}
 use native.Mathlib.Omega.{arith}
 use borrow.Author.Needs.{needs}
-use Rattle.spacing.specs.Sizes.{FullBox}
+use Rattle.geometry.specs.Cuts.{FullBox}
 use Rattle.spacing.proofs.Boxes.{full-box}
 use Rattle.spacing.proofs.RegionTables.{regions-fillable}
 use Rattle.spacing.proofs.Places.{lists-length, lists-countable, lists-free}
@@ -32,7 +32,7 @@ returns-2 : tie.Need-returns-2
 returns-2 c =
     let s = c .before .before .before .before .before .before .before .before in
     let l = c .before .before .before .list-places in
-    let free = lists-none _ (s .args .b) _ _ _ (s .pre .0) (s .pre .1 .1) (l .ensures) _ (c .before .if2 .taken) (c .size .ensures) in
+    let free = lists-none _ (s .args .b) _ _ _ (s .pre .0) (s .pre .1 .1) (l .ensures) _ (c .before .if2 .taken) (c .box-size .ensures) in
     (free, λ ks e. free ∙ regions-fillable (s .args .regions .now) ks (s .args .b) e)
 
 free-by-requires : tie.Need-free-by-requires

@@ -3,7 +3,7 @@ use Prim.Native.Nat.{_-_}
 use native.Mathlib.Omega.{arith}
 use borrow.Author.Needs.{needs}
 use lib.ListN.{length}
-use Rattle.spacing.specs.Counting.{InBox}
+use Rattle.geometry.specs.Cuts.{InBox}
 use Rattle.spacing.proofs.SmallRegions.{region-small}
 use Rattle.spacing.proofs.cuts.edges.Statement.{statement}
 use Rattle.spacing.proofs.cuts.edges.Tie as tie

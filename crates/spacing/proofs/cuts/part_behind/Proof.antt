@@ -1,8 +1,0 @@
--- `spacing::cuts::part_behind` meets its contract: by the kind of the cut. Assumes nothing.
-use borrow.Author.Needs.{needs}
-use Rattle.spacing.proofs.Halves.{behind-column, behind-row}
-use Rattle.spacing.proofs.cuts.part_behind.Statement.{statement}
-use Rattle.spacing.proofs.cuts.part_behind.Tie as tie
-
-pub part-behind-spec : {M : Type 1} → statement M
-part-behind-spec = tie.close (tie.spec (λ c. search needs) (λ c. search needs) (λ c. search behind-column) (λ c. search behind-row))
