@@ -1,0 +1,12 @@
+pub mod StraightLines
+pub mod LineCounts
+pub mod FlatBoxes
+pub mod Overlapping
+pub mod Testing
+pub mod Seams
+pub mod Crossing
+pub mod Listing
+pub mod Remaining
+pub mod RowCounts
+pub mod Deciding
+pub mod Adding

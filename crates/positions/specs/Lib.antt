@@ -1,0 +1,3 @@
+pub mod Tallies
+pub mod Flatness
+pub mod Counting
