@@ -6,7 +6,9 @@ use common::printed_by_both;
 use reference::answer::{answer, answer_by, printed, Method, Reply, ANSWER_ROOM};
 use reference::generate::{boundary_jobs, cautious_areas, large_job, large_jobs, LargeJob, Random};
 use reference::job::{Job, Kind, Refusal};
-use reference::outcome::{End, Exact, Failure, Outcome, Quick, Shown, Side, Verdict, Window};
+use reference::outcome::{
+    End, Exact, Failure, Outcome, Positions, Quick, Shown, Side, Verdict, Window,
+};
 use reference::sense::Sense;
 use reference::{brute, fast};
 use std::sync::LazyLock;
@@ -45,6 +47,7 @@ fn as_many_shapes_under_a_window_as_may_stand() {
                     (zoom met (levels 1) (floor 256 0 0 256) (ceiling 256) (kept 0))\n\
                     (zoommin exact (levels 6) (low 256) (high 256 0 0 256) (kept 0))\n\
                     (density 10000)\n\
+                    (positions 0 1 0)\n\
                     (fill safe)\n";
     for mixture in ["drawn", "dummies", "mixed"] {
         let job = boundary_job(&format!("256 shapes under one window, {mixture}"));
@@ -84,6 +87,7 @@ fn window_as_large_as_the_layout() {
                         (zoom met (levels 1) (floor 4 0 0 1) (ceiling 4) (kept 0))\n\
                         (zoommin met (levels 3) (low 4) (high 4 0 0 1) (kept 0))\n\
                         (density 625)\n\
+                        (positions 0 1 0)\n\
                         (fill safe)\n";
         assert_eq!(printed_by_both(file.as_bytes()), expected);
     }
@@ -162,6 +166,11 @@ fn room_for_every_answer() {
         greatest: quick(Sense::Greatest),
         least: quick(Sense::Least),
         density: MOST,
+        positions: Positions {
+            under: MOST,
+            within: MOST,
+            over: MOST,
+        },
         verdict: Verdict::Undecided(Failure {
             side: Side::Under,
             column: MOST,
