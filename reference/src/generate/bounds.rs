@@ -5,6 +5,7 @@ use super::large::{grid_of_different_sides, large_fills, within_limit};
 use super::line::bytes_of;
 use super::random::Random;
 use super::small::{boxes, fills, lines_in_any_order};
+use crate::answer::rounded;
 use crate::cover::Cover;
 use crate::fast;
 use crate::job::{overlap, Job, LARGEST_SIDE, MOST_SHAPES, MOST_TILES};
@@ -15,6 +16,8 @@ const EXACT_SIDES: [u64; 9] = [1, 2, 4, 5, 10, 20, 25, 50, 100];
 
 /// Longest side of a small layout, but for those with long windows.
 const LARGEST_SMALL_SIDE: u64 = 24;
+/// How much longer than a long window a layout may be.
+const LONGEST_REST: u64 = 8;
 
 /// A job whose squares can be counted.
 pub fn bounded_job(random: &mut Random) -> Vec<u8> {
@@ -31,9 +34,10 @@ pub fn bounded_job(random: &mut Random) -> Vec<u8> {
 pub fn large_bounded_job(random: &mut Random) -> Vec<u8> {
     let mut job = large_bare_job(random);
     let mut boxes = regular_boxes(random, &job);
-    if random.one_in(2) {
+    // Beyond an edge of what is regular, windows differ from those before it.
+    if boxes.len() > 1 && random.one_in(2) {
         let edge = random.between(job.size / 2, job.size);
-        boxes.retain(|[_, y1, x2, _]| *x2 <= edge && *y1 <= edge);
+        boxes.retain(|[x1, y1, ..]| *x1 <= edge && *y1 <= edge);
     }
     if !random.one_in(3) {
         flip_a_square_of_each_window(random, &job, &mut boxes);
@@ -66,11 +70,12 @@ fn small_bare_job(random: &mut Random) -> Job {
         1 => random.pick(&EXACT_SIDES),
         _ => random.pick(&EXACT_SIDES[2..5]),
     };
-    let cuts: Vec<u64> = (1..=window.min(MOST_TILES - 8))
+    let cuts: Vec<u64> = (1..=window.min(MOST_TILES - LONGEST_REST))
         .filter(|&cut| window.is_multiple_of(cut))
         .collect();
     let cut = random.pick(&cuts);
-    let (tile, largest) = (window / cut, LARGEST_SMALL_SIDE.max(window + 8));
+    let largest = LARGEST_SMALL_SIDE.max(window + LONGEST_REST);
+    let tile = window / cut;
     let tiles = random.between(cut, largest / tile);
     bare_job(random, tile, tiles, cut)
 }
@@ -178,7 +183,7 @@ fn repeated_boxes(random: &mut Random, job: &Job) -> Vec<[u64; 4]> {
 /// has just one of them, and an area that differs by one. Nothing is done where
 /// there would be too many shapes.
 fn flip_a_square_of_each_window(random: &mut Random, job: &Job, boxes: &mut Vec<[u64; 4]>) {
-    // Half of the times one of them is in a box, and more often if there is much metal.
+    // Half of the times one that is covered is asked for: there may be little metal.
     let [x1, y1, x2, y2] = match boxes.is_empty() || random.one_in(2) {
         true => [0, 0, job.size, job.size],
         false => random.pick(boxes),
@@ -243,17 +248,12 @@ fn area_of_many(random: &mut Random, job: &Job, cover: &Cover) -> u64 {
     }
 }
 
-/// A bound that is exactly this area, if there is one, or next to it.
+/// A bound that is exactly this area, if there is one, or near it.
 fn bound_near(random: &mut Random, job: &Job, area: u64) -> u64 {
     let (parts, square) = (10_000 * area, job.window * job.window);
     let (below, above) = (parts / square, parts.div_ceil(square));
-    let near = [
-        below,
-        above,
-        below,
-        above,
-        below.saturating_sub(1),
-        above + 1,
-    ];
+    let nearest = rounded(parts, square);
+    let farther = [below.saturating_sub(1), above + 1];
+    let near = [nearest, nearest, below, above, farther[0], farther[1]];
     random.pick(&near).min(10_000)
 }
