@@ -59,18 +59,70 @@ pub fn word_of(line: &str) -> &str {
     line.split(' ').next().unwrap_or(line)
 }
 
-/// The lines that are not the same in what two states print for a job, each as
-/// it is now and as it was before; empty where none begins with its word. No
-/// text has two lines that begin with one word.
-pub fn changed_lines<'a>(now: &'a str, before: &'a str) -> Vec<[&'a str; 2]> {
+/// What two states print for a job, as far as it is not the same.
+pub struct Difference<'a> {
+    /// Each line as it is now and as it was before; empty where none begins with
+    /// its word.
+    pub changed: Vec<[&'a str; 2]>,
+    /// Lines of an answer that begin with a word which no line of the earlier
+    /// state's answer does. They say more, and change nothing of what it said.
+    pub new: Vec<&'a str>,
+}
+
+/// Compares what is printed now with what was before. No text has two lines that
+/// begin with one word.
+pub fn difference<'a>(now: &'a str, before: &'a str) -> Difference<'a> {
     let mut pairs: BTreeMap<&str, [&str; 2]> = BTreeMap::new();
     for (place, text) in [now, before].into_iter().enumerate() {
         for line in text.lines() {
             pairs.entry(word_of(line)).or_default()[place] = line;
         }
     }
-    pairs
-        .into_values()
-        .filter(|[now, before]| now != before)
-        .collect()
+    // A refusal has none of an answer's lines, so between the two all lines change.
+    let are_answers = [now, before].iter().all(|text| word_of(text) != "(refused");
+    let differing = pairs.into_values().filter(|[now, before]| now != before);
+    let (new, changed): (Vec<_>, Vec<_>) =
+        differing.partition(|[_, before]| are_answers && before.is_empty());
+    Difference {
+        changed,
+        new: new.into_iter().map(|[line, _]| line).collect(),
+    }
+}
+
+#[cfg(test)]
+mod tests {
+    use super::*;
+
+    const BEFORE: &str = "(density 2500)\n(fill safe)\n";
+    const REFUSED: &str = "(refused 11 8)\n";
+
+    /// Checks the lines that changed and the new ones.
+    fn assert_difference(now: &str, before: &str, changed: &[[&str; 2]], new: &[&str]) {
+        let found = difference(now, before);
+        assert_eq!((&found.changed[..], &found.new[..]), (changed, new));
+    }
+
+    #[test]
+    fn a_line_of_a_new_word_is_no_change() {
+        assert_difference(BEFORE, BEFORE, &[], &[]);
+        let now = "(density 2500)\n(positions 0 25 0)\n(fill safe)\n";
+        assert_difference(now, BEFORE, &[], &["(positions 0 25 0)"]);
+        let other = "(density 2499)\n(positions 0 25 0)\n(fill safe)\n";
+        let density = ["(density 2499)", "(density 2500)"];
+        assert_difference(other, BEFORE, &[density], &["(positions 0 25 0)"]);
+        // One that is gone is a change.
+        assert_difference(BEFORE, now, &[["", "(positions 0 25 0)"]], &[]);
+    }
+
+    #[test]
+    fn between_an_answer_and_a_refusal_all_lines_change() {
+        let (density, fill) = ("(density 2500)", "(fill safe)");
+        let refused = "(refused 11 8)";
+        let accepted_now = [[density, ""], [fill, ""], ["", refused]];
+        assert_difference(BEFORE, REFUSED, &accepted_now, &[]);
+        let refused_now = [["", density], ["", fill], [refused, ""]];
+        assert_difference(REFUSED, BEFORE, &refused_now, &[]);
+        let elsewhere = [["(refused 11 9)", refused]];
+        assert_difference("(refused 11 9)\n", REFUSED, &elsewhere, &[]);
+    }
 }

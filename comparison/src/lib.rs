@@ -69,7 +69,8 @@ impl Library {
     /// Reads a job and runs one phase, for the benchmark: 1 is the exact run,
     /// which gives the greatest area; 2 the exact run and the quick run for the
     /// greatest, which gives the ceiling; 3 the exact run and the quick run for
-    /// the least, which gives the low end; 4 the verdict; 0 reads only.
+    /// the least, which gives the low end; 4 the verdict; 5 the positions, which
+    /// gives those within; 0 reads only. A phase that a state does not have gives 0.
     pub fn phase(&self, file: &[u8], phase: u64) -> u64 {
         // SAFETY: as for `answer`.
         unsafe { (self.phase)(file.as_ptr(), file.len(), phase) }

@@ -2,9 +2,11 @@
 
 use comparison::{compare, on_large_stack};
 use reference::generate::{
-    boundary_jobs, corner_job, damaged_job, faulty_job, large_corner_job, large_job, large_jobs,
-    mixed_job, small_job, Random, COMPARED_CORNER_SEEDS, COMPARED_DAMAGED_SEEDS,
-    COMPARED_FAULTY_SEEDS, COMPARED_LARGE_CORNER_SEEDS, COMPARED_LARGE_SEEDS, COMPARED_SEEDS,
+    boundary_jobs, bounded_job, corner_job, damaged_job, faulty_job, large_bounded_job,
+    large_corner_job, large_job, large_jobs, mixed_job, small_job, Random, COMPARED_BOUNDED_SEEDS,
+    COMPARED_CORNER_SEEDS, COMPARED_DAMAGED_SEEDS, COMPARED_FAULTY_SEEDS,
+    COMPARED_LARGE_BOUNDED_SEEDS, COMPARED_LARGE_CORNER_SEEDS, COMPARED_LARGE_SEEDS,
+    COMPARED_SEEDS,
 };
 use std::ops::Range;
 
@@ -61,6 +63,12 @@ fn one_square_too_much_at_corners() {
 }
 
 #[test]
+fn bounds_at_frequent_areas() {
+    compare_seeds(COMPARED_BOUNDED_SEEDS, bounded_job);
+    compare_seeds(COMPARED_LARGE_BOUNDED_SEEDS, large_bounded_job);
+}
+
+#[test]
 fn heaviest_jobs() {
     on_large_stack(|| {
         for job in large_jobs() {
@@ -84,6 +92,7 @@ fn boundary_list() {
 fn sample_jobs() {
     let samples = [
         ("a", "(exact (max 4 1 1 1) (min 1 0 0 1))"),
+        ("a", "(positions 0 25 0)"),
         (
             "stripes",
             "(zoommin met (levels 4) (low 23) (high 36 8 16 2) (kept 225))",
@@ -95,6 +104,7 @@ fn sample_jobs() {
         ("half", "(density 938)"),
         ("dummies", "(fill safe)"),
         ("corners", "(fill safe)"),
+        ("yield", "(positions 32 85 4)"),
         ("refused", "(refused 11 8)"),
     ];
     on_large_stack(move || {

@@ -1,12 +1,12 @@
 //! From the bytes of a job to the bytes of its answer.
 
 use crate::job::{Fault, Job, Refusal};
-use crate::outcome::{Exact, Outcome, Quick, Shown, Verdict, Window};
+use crate::outcome::{Exact, Outcome, Positions, Quick, Shown, Verdict, Window};
 use crate::sense::Sense;
 use crate::{brute, fast};
 
 /// A buffer of this length, which is the unit's own, has room for every answer.
-pub const ANSWER_ROOM: usize = 728;
+pub const ANSWER_ROOM: usize = 808;
 
 /// Which implementation of the phases to use.
 #[derive(Clone, Copy)]
@@ -46,16 +46,24 @@ impl Method {
             Method::Brute => {
                 let grid = brute::Grid::new(job);
                 let exact = brute::exact_run(job, &grid);
-                let quick = Sense::BOTH.map(|sense| brute::quick_run(job, &grid, sense, &exact));
-                let shapes = |[x1, y1, x2, y2]: [u64; 4]| grid.shapes(x1..x2, y1..y2);
-                shown(job, exact, quick, brute::verdict(job, &grid), shapes)
+                let found = Found {
+                    exact,
+                    quick: Sense::BOTH.map(|sense| brute::quick_run(job, &grid, sense, &exact)),
+                    positions: brute::positions(job, &grid),
+                    verdict: brute::verdict(job, &grid),
+                };
+                found.shown(job, |[x1, y1, x2, y2]| grid.shapes(x1..x2, y1..y2))
             }
             Method::Fast => {
                 let cover = fast::metal_cover(job);
                 let exact = fast::exact_run(job, &cover);
-                let quick = Sense::BOTH.map(|sense| fast::quick_run(job, &cover, sense, &exact));
-                let shapes = |corners| fast::shapes(job, corners);
-                shown(job, exact, quick, fast::verdict(job, &cover), shapes)
+                let found = Found {
+                    exact,
+                    quick: Sense::BOTH.map(|sense| fast::quick_run(job, &cover, sense, &exact)),
+                    positions: fast::positions(job, &cover),
+                    verdict: fast::verdict(job, &cover),
+                };
+                found.shown(job, |corners| fast::shapes(job, corners))
             }
         }
     }
@@ -66,25 +74,32 @@ impl Method {
     }
 }
 
-/// What an answer tells of what the phases found. `shapes` counts those of the
-/// box with these corners, and is asked only for the windows that are shown.
-fn shown(
-    job: &Job,
+/// What the phases found.
+struct Found {
     exact: Exact,
-    [greatest, least]: [Quick; 2],
+    /// The runs for the greatest and for the least.
+    quick: [Quick; 2],
+    positions: Positions,
     verdict: Verdict,
-    shapes: impl Fn([u64; 4]) -> u64,
-) -> Outcome {
-    let counted = |window: Window| Shown {
-        window,
-        shapes: shapes(window.corners(job.window)),
-    };
-    Outcome {
-        exact: exact.map(counted),
-        greatest: greatest.map(counted),
-        least: least.map(counted),
-        density: density(job, &greatest),
-        verdict,
+}
+
+impl Found {
+    /// What an answer tells of it. `shapes` counts those of the box with these
+    /// corners, and is asked only for the windows that are shown.
+    fn shown(self, job: &Job, shapes: impl Fn([u64; 4]) -> u64) -> Outcome {
+        let counted = |window: Window| Shown {
+            window,
+            shapes: shapes(window.corners(job.window)),
+        };
+        let [greatest, least] = self.quick;
+        Outcome {
+            exact: self.exact.map(counted),
+            greatest: greatest.map(counted),
+            least: least.map(counted),
+            density: density(job, &greatest),
+            positions: self.positions,
+            verdict: self.verdict,
+        }
     }
 }
 

@@ -1,9 +1,10 @@
 //! The same answers for every legal job, in little time.
 
 use crate::barred;
+use crate::cells;
 use crate::cover::{Cover, Span, Strip};
 use crate::job::{self, overlap, Job, Refusal};
-use crate::outcome::{End, Exact, Failure, Quick, Side, Verdict, Window};
+use crate::outcome::{End, Exact, Failure, Positions, Quick, Side, Verdict, Window};
 use crate::sense::Sense;
 use std::ops::Range;
 
@@ -252,6 +253,32 @@ pub fn quick_run(job: &Job, cover: &Cover, sense: Sense, exact: &Exact) -> Quick
         level = Level::new(job, cover, sense, job.window >> levels, Some(&level));
         levels += 1;
     }
+}
+
+/// How many window positions fail or keep the bounds.
+pub fn positions(job: &Job, cover: &Cover) -> Positions {
+    // Areas are whole, so that each bound parts them between two neighbours.
+    let limits = [job.least_kept(), job.greatest_kept() + 1];
+    let [under, not_over] = positions_below(job, cover, limits);
+    Positions {
+        under,
+        within: not_over - under,
+        over: job.positions() - not_over,
+    }
+}
+
+/// How many window positions have less than each of these areas.
+pub fn positions_below<const K: usize>(job: &Job, cover: &Cover, limits: [u64; K]) -> [u64; K] {
+    let breakpoints = |cuts| {
+        let mut positions = candidates(job, cuts);
+        positions.push(job.last_position() + 1);
+        positions
+    };
+    let (xs, ys) = (
+        breakpoints(cover.column_cuts()),
+        breakpoints(cover.row_cuts()),
+    );
+    cells::positions_below(cover, job.window, [&xs, &ys], limits)
 }
 
 /// Covered area plus fill of each tile, row by row.

@@ -1,10 +1,12 @@
 //! Jobs on which implementations are compared: random small ones, faulty and
-//! damaged ones, those at the limits, and the heaviest legal ones.
+//! damaged ones, those at the limits, those with bounds at frequent areas, and the
+//! heaviest legal ones.
 //!
 //! Everything follows from the seed of a [`Random`], so a failing job can be
 //! made again.
 
 mod boundary;
+mod bounds;
 mod corners;
 mod damage;
 mod faulty;
@@ -15,6 +17,7 @@ mod random;
 mod small;
 
 pub use boundary::{boundary_jobs, BoundaryJob};
+pub use bounds::{bounded_job, large_bounded_job};
 pub use corners::{cautious_areas, corner_job, large_corner_job};
 pub use damage::damaged_job;
 pub use faulty::{faulty_job, job_with_fault, SPOILABLE};
@@ -39,6 +42,11 @@ pub const COMPARED_LARGE_SEEDS: Range<u64> = 5_000_000..5_000_030;
 pub const COMPARED_CORNER_SEEDS: Range<u64> = 6_000_000..6_001_000;
 /// Those of such jobs at full size.
 pub const COMPARED_LARGE_CORNER_SEEDS: Range<u64> = 7_000_000..7_000_012;
+
+/// Those of the jobs with bounds at or beside frequent areas.
+pub const COMPARED_BOUNDED_SEEDS: Range<u64> = 8_000_000..8_003_000;
+/// Those of such jobs at full size.
+pub const COMPARED_LARGE_BOUNDED_SEEDS: Range<u64> = 9_000_000..9_000_200;
 
 /// Any small job: half of them valid, the others faulty or damaged.
 pub fn mixed_job(random: &mut Random) -> Vec<u8> {

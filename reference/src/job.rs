@@ -106,6 +106,12 @@ impl Job {
         self.size - self.window
     }
 
+    /// How many window positions there are.
+    pub fn positions(&self) -> u64 {
+        let on_an_axis = self.last_position() + 1;
+        on_an_axis * on_an_axis
+    }
+
     /// The last tile column or row at which a window starts.
     pub(crate) fn last_tile_start(&self) -> u64 {
         self.tiles() - self.cut
@@ -129,6 +135,16 @@ impl Job {
     /// Whether a window sum keeps the lower bound.
     pub fn keeps_lower(&self, sum: u64) -> bool {
         10_000 * sum >= self.lower * self.window * self.window
+    }
+
+    /// The least sum that keeps the lower bound.
+    pub fn least_kept(&self) -> u64 {
+        (self.lower * self.window * self.window).div_ceil(10_000)
+    }
+
+    /// The greatest sum that keeps the upper bound.
+    pub fn greatest_kept(&self) -> u64 {
+        self.upper * self.window * self.window / 10_000
     }
 
     /// A head that states no dummy gap means the one it states for both.

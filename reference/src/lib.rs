@@ -10,6 +10,7 @@
 pub mod answer;
 mod barred;
 pub mod brute;
+mod cells;
 pub mod cover;
 pub mod fast;
 pub mod generate;

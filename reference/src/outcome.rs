@@ -126,6 +126,18 @@ pub enum Verdict {
     Undecided(Failure),
 }
 
+/// How many window positions there are of each kind by their areas. Planned fill
+/// has no part in it.
+#[derive(Clone, Copy, Debug, Default, PartialEq, Eq)]
+pub struct Positions {
+    /// Those that fail the lower bound.
+    pub under: u64,
+    /// Those that keep both bounds.
+    pub within: u64,
+    /// Those that fail the upper bound.
+    pub over: u64,
+}
+
 /// All that an answer tells.
 #[derive(Debug, PartialEq, Eq)]
 pub struct Outcome {
@@ -134,6 +146,7 @@ pub struct Outcome {
     pub least: Quick<Shown>,
     /// In ten-thousandths, midway between the ends of the greatest's bracket.
     pub density: u64,
+    pub positions: Positions,
     pub verdict: Verdict,
 }
 
@@ -183,6 +196,17 @@ impl Display for Quick<Shown> {
     }
 }
 
+impl Display for Positions {
+    fn fmt(&self, f: &mut Formatter) -> fmt::Result {
+        let Positions {
+            under,
+            within,
+            over,
+        } = self;
+        write!(f, "(positions {under} {within} {over})")
+    }
+}
+
 impl Display for Failure {
     fn fmt(&self, f: &mut Formatter) -> fmt::Result {
         let side = match self.side {
@@ -209,6 +233,7 @@ impl Display for Outcome {
         writeln!(f, "{}", self.greatest)?;
         writeln!(f, "{}", self.least)?;
         writeln!(f, "(density {})", self.density)?;
+        writeln!(f, "{}", self.positions)?;
         writeln!(f, "{}", self.verdict)
     }
 }

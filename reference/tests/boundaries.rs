@@ -6,7 +6,9 @@ use common::printed_by_both;
 use reference::answer::{answer, answer_by, printed, Method, Reply, ANSWER_ROOM};
 use reference::generate::{boundary_jobs, cautious_areas, large_job, large_jobs, LargeJob, Random};
 use reference::job::{Job, Kind, Refusal};
-use reference::outcome::{End, Exact, Failure, Outcome, Quick, Shown, Side, Verdict, Window};
+use reference::outcome::{
+    End, Exact, Failure, Outcome, Positions, Quick, Shown, Side, Verdict, Window,
+};
 use reference::sense::Sense;
 use reference::{brute, fast};
 use std::sync::LazyLock;
@@ -45,6 +47,7 @@ fn as_many_shapes_under_a_window_as_may_stand() {
                     (zoom met (levels 1) (floor 256 0 0 256) (ceiling 256) (kept 0))\n\
                     (zoommin exact (levels 6) (low 256) (high 256 0 0 256) (kept 0))\n\
                     (density 10000)\n\
+                    (positions 0 1 0)\n\
                     (fill safe)\n";
     for mixture in ["drawn", "dummies", "mixed"] {
         let job = boundary_job(&format!("256 shapes under one window, {mixture}"));
@@ -84,6 +87,7 @@ fn window_as_large_as_the_layout() {
                         (zoom met (levels 1) (floor 4 0 0 1) (ceiling 4) (kept 0))\n\
                         (zoommin met (levels 3) (low 4) (high 4 0 0 1) (kept 0))\n\
                         (density 625)\n\
+                        (positions 0 1 0)\n\
                         (fill safe)\n";
         assert_eq!(printed_by_both(file.as_bytes()), expected);
     }
@@ -103,6 +107,67 @@ fn one_square_off_a_half_of_a_wide_window() {
         let line = format!("(density {density})");
         assert_eq!(printed.lines().nth(3), Some(line.as_str()), "{name}");
     }
+}
+
+/// Checks under, within and over of boundary jobs by their names.
+fn assert_positions(cases: &[(&str, [u64; 3])]) {
+    for (name, [under, within, over]) in cases {
+        let printed = printed(Method::Fast, &boundary_job(name));
+        let line = format!("(positions {under} {within} {over})");
+        assert_eq!(printed.lines().nth(4), Some(line.as_str()), "{name}");
+    }
+}
+
+#[test]
+fn positions_that_are_all_alike() {
+    for (layout, all) in [
+        ("most positions", 64_481 * 64_481),
+        ("one position", 1),
+        ("windows of one square", 64 * 64),
+    ] {
+        let name = |rest: &str| format!("{layout}, {rest}");
+        let [under, within, over] = [[all, 0, 0], [0, all, 0], [0, 0, all]];
+        for (rest, counts) in [
+            ("no metal, bounds 0 0", within),
+            ("no metal, bounds 0 10000", within),
+            ("no metal, bounds 1 9999", under),
+            ("no metal, bounds 10000 10000", under),
+            ("metal all over, bounds 0 0", over),
+            ("metal all over, bounds 0 10000", within),
+            ("metal all over, bounds 1 9999", over),
+            ("metal all over, bounds 10000 10000", within),
+        ] {
+            assert_positions(&[(&name(rest), counts)]);
+        }
+    }
+}
+
+/// No head that is accepted has more positions than that of the job with the most.
+#[test]
+fn most_positions_are_as_named() {
+    let sides =
+        (1..=64_u64).flat_map(|tiles| (1..=tiles).map(move |cut| (65_535 / tiles, tiles, cut)));
+    let on_an_axis = sides.map(|(tile, tiles, cut)| tile * (tiles - cut) + 1);
+    assert_eq!(on_an_axis.max(), Some(64_481));
+}
+
+/// With one square more, the windows that have the metal but for it are one column.
+#[test]
+fn positions_one_square_off_a_bound() {
+    let all = 39_301 * 39_301;
+    let (across, down) = (13_101, 13_101);
+    let holding = across * down;
+    assert_positions(&[
+        ("a quarter of the one window less one square", [1, 0, 0]),
+        ("a quarter of the one window", [0, 1, 0]),
+        ("a quarter of the one window and one square", [0, 0, 1]),
+        ("a quarter of many windows less one square", [all, 0, 0]),
+        ("a quarter of many windows", [all - holding, holding, 0]),
+        (
+            "a quarter of many windows and one square",
+            [all - holding, down, holding - down],
+        ),
+    ]);
 }
 
 const SMALL: &[u8] = b"(job (size 8) (window 4) (cut 2) (gap 1) (bounds 0 5000) (zoom 0 6))\n\
@@ -162,6 +227,11 @@ fn room_for_every_answer() {
         greatest: quick(Sense::Greatest),
         least: quick(Sense::Least),
         density: MOST,
+        positions: Positions {
+            under: MOST,
+            within: MOST,
+            over: MOST,
+        },
         verdict: Verdict::Undecided(Failure {
             side: Side::Under,
             column: MOST,
@@ -295,6 +365,42 @@ fn heaviest_jobs_by_gap_need_many_of_their_shapes() {
         let sampled = (0..job.shapes.len()).step_by(16);
         let needed = sampled.filter(is_needed).count();
         assert!(needed >= least, "{name}: {needed} of 16");
+    }
+}
+
+#[test]
+fn heaviest_jobs_by_bounds_have_positions_at_them() {
+    let positions = |name: &str| {
+        let job = heaviest_job(name);
+        (fast::positions(&job, &fast::metal_cover(&job)), job)
+    };
+    // The windows that hold all of the rectangle are over the bound, by one square.
+    let (one, job) = positions("one rectangle");
+    assert_eq!((job.size, job.shapes.len()), (65_535, 1));
+    let [x1, y1, x2, y2] = job.shapes[0].corners;
+    let [width, height] = [x2 - x1, y2 - y1];
+    assert_eq!(width * height, job.greatest_kept() + 1);
+    let holding = (job.window - width + 1) * (job.window - height + 1);
+    assert_eq!(one.over, holding);
+    assert!(one.under > holding && one.within > holding, "{one}");
+    // All windows have the same area, which is one square more than the bound.
+    let (bars, job) = positions("bars at a bound");
+    let exact = fast::exact_run(&job, &fast::metal_cover(&job));
+    assert_eq!(
+        [exact.max.area, exact.min.area],
+        [job.greatest_kept() + 1; 2]
+    );
+    assert_eq!((bars.over, job.lower), (job.positions(), job.upper));
+    for name in [
+        "bounds under bars",
+        "bounds, small windows",
+        "bounds, wide windows",
+    ] {
+        let (found, job) = positions(name);
+        assert_eq!(job.shapes.len(), 256, "{name}");
+        for count in [found.under, found.within, found.over] {
+            assert!(4 * count > job.positions(), "{name}: {found}");
+        }
     }
 }
 

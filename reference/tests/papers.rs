@@ -76,6 +76,7 @@ const ANSWER_A: &str = "(exact (max 4 1 1 1) (min 1 0 0 1))\n\
                         (zoom met (levels 2) (floor 4 2 2 1) (ceiling 4) (kept 0))\n\
                         (zoommin exact (levels 4) (low 1) (high 1 0 0 1) (kept 0))\n\
                         (density 2500)\n\
+                        (positions 0 25 0)\n\
                         (fill safe)\n";
 
 #[test]

@@ -4,20 +4,21 @@
 //!
 //! The library reads the job for every phase and does the exact run before
 //! either quick one, so a phase is the difference of two times. These three runs
-//! take no fills; they are timed on the job without its fill lines, since reading
-//! those could hide them. Every time is the least of several runs; a dash stands
-//! for one that noise hides.
+//! and the positions take no fills; they are timed on the job without its fill
+//! lines, since reading those could hide them. Every time is the least of several
+//! runs; a dash stands for one that noise hides.
 //!
 //! An argument names an earlier state of the library, which is then timed in turn
-//! with the linked one; the lines in which their answers differ are shown. A job
-//! that it refuses, because it does not know all of its forms or finds less room for
-//! a fill, is timed without it. It is a shared object, made in that state's checkout
-//! by
+//! with the linked one; the lines in which their answers differ are shown, and
+//! those that are new. A job that it refuses, because it does not know all of its
+//! forms or finds less room for a fill, is timed without it. It is a shared object,
+//! made in that state's checkout by
 //!
 //! ```text
 //! cc -shared -o earlier.so -Wl,--whole-archive target/staticlib/libunit.a target/staticlib/libphases.a -Wl,--no-whole-archive
 //! ```
 
+use comparison::earlier::Difference;
 use comparison::timing::{in_turn, Sample};
 use comparison::{earlier, on_large_stack, plain, Library, LINKED};
 use reference::answer::{answer, Reply, ANSWER_ROOM};
@@ -62,6 +63,7 @@ struct Times {
     greatest: Milliseconds,
     /// The quick run for the least.
     least: Milliseconds,
+    positions: Milliseconds,
     verdict: Milliseconds,
     answer: Milliseconds,
 }
@@ -80,7 +82,7 @@ fn least_time<T>(task: impl Fn() -> T) -> f64 {
 type Task<'a> = (&'a [u8], Option<u64>);
 
 /// How many tasks of a library are timed.
-const TASKS: usize = 7;
+const TASKS: usize = 8;
 
 fn run(library: Library, (file, phase): Task) {
     match phase {
@@ -100,6 +102,7 @@ fn proved_times(libraries: &[Library], file: &[u8], unfilled_file: &[u8]) -> Vec
         (unfilled_file, Some(1)),
         (unfilled_file, Some(2)),
         (unfilled_file, Some(3)),
+        (unfilled_file, Some(5)),
         (file, Some(0)),
         (file, Some(4)),
         (file, None),
@@ -116,15 +119,16 @@ fn proved_times(libraries: &[Library], file: &[u8], unfilled_file: &[u8]) -> Vec
 impl Times {
     /// From the times of a library's tasks.
     fn of_library(times: &[f64; TASKS]) -> Times {
-        let &[unfilled, exact, exact_and_greatest, exact_and_least, reading, verdict, answer] =
-            times;
+        // Those of the quick runs have the exact run in them.
+        let &[unfilled, exact, greatest, least, positions, reading, verdict, answer] = times;
         Times {
             unfilled: above_noise(unfilled),
             fills: difference(reading, unfilled),
             reading: above_noise(reading),
             exact: difference(exact, unfilled),
-            greatest: difference(exact_and_greatest, exact),
-            least: difference(exact_and_least, exact),
+            greatest: difference(greatest, exact),
+            least: difference(least, exact),
+            positions: difference(positions, unfilled),
             verdict: difference(verdict, reading),
             answer: above_noise(answer),
         }
@@ -147,6 +151,7 @@ fn second_times(file: &[u8], unfilled_file: &[u8], job: &Job) -> Times {
         exact: above_noise(exact),
         greatest: above_noise(quick(Sense::Greatest)),
         least: above_noise(quick(Sense::Least)),
+        positions: above_noise(least_time(|| fast::positions(job, &cover))),
         verdict: above_noise(least_time(|| fast::verdict(job, &cover))),
         answer: above_noise(least_time(|| answer(file, &mut [0; ANSWER_ROOM]))),
     }
@@ -167,8 +172,12 @@ fn accepting(earlier: Option<Library>, file: &[u8]) -> Option<Library> {
 fn print_changes(libraries: &[Library], file: &[u8]) {
     for earlier in &libraries[1..] {
         let (now, before) = (LINKED.printed(file), earlier.printed(file));
-        for [now, before] in earlier::changed_lines(&now, &before) {
+        let Difference { changed, new } = earlier::difference(&now, &before);
+        for [now, before] in changed {
             println!("  now {now}, before {before}");
+        }
+        for line in new {
+            println!("  new {line}");
         }
     }
 }
@@ -226,6 +235,7 @@ fn print_table(libraries: &[Times], second: &Times, [strips, all]: [Milliseconds
     print_row("  beside summing all", proved.exact, &[all]);
     row("quick run, greatest", |times| times.greatest);
     row("quick run, least", |times| times.least);
+    row("positions", |times| times.positions);
     row("verdict", |times| times.verdict);
     row("whole answer", |times| times.answer);
     print_ratio(

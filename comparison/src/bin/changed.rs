@@ -2,13 +2,15 @@
 //! through the linked one, and the number of lines that differ, by the word that
 //! they begin with. Jobs with a form that the earlier state did not know are
 //! counted apart, and so are jobs with a fill for which it found less room: no line
-//! of theirs can be compared. The argument names the earlier state, as for the
+//! of theirs can be compared. Lines of a word that its answers did not have are new
+//! and counted apart as well. The argument names the earlier state, as for the
 //! benchmark.
 
-use comparison::earlier::{self, changed_lines, word_of};
+use comparison::earlier::{self, difference, word_of, Difference};
 use comparison::{on_large_stack, LINKED};
 use reference::generate::{
-    boundary_jobs, corner_job, damaged_job, faulty_job, large_job, large_jobs, small_job, Random,
+    boundary_jobs, bounded_job, corner_job, damaged_job, faulty_job, large_bounded_job, large_job,
+    large_jobs, small_job, Random,
 };
 use std::collections::BTreeMap;
 use std::process::ExitCode;
@@ -16,12 +18,14 @@ use std::process::ExitCode;
 /// Random jobs of one kind: how many, and how one is made.
 type Kind = (u64, fn(&mut Random) -> Vec<u8>);
 
-const KINDS: [Kind; 5] = [
+const KINDS: [Kind; 7] = [
     (20_000, small_job),
     (10_000, faulty_job),
     (10_000, damaged_job),
     (1000, |random| corner_job(random, 0)),
     (200, large_job),
+    (1000, bounded_job),
+    (200, large_bounded_job),
 ];
 
 /// The jobs at the limits, the heaviest ones, and random ones of every kind.
@@ -34,16 +38,33 @@ fn jobs() -> impl Iterator<Item = Vec<u8>> {
     limits.chain(heaviest).chain(random)
 }
 
+/// Numbers of lines by the word that they begin with.
+#[derive(Default)]
+struct Lines(BTreeMap<String, u64>);
+
+impl Lines {
+    fn see(&mut self, line: &str) {
+        *self.0.entry(word_of(line).to_string()).or_default() += 1;
+    }
+
+    fn print(&self, what: &str) {
+        for (word, count) in &self.0 {
+            println!("{count} lines {what} that begin with {word}");
+        }
+    }
+}
+
 /// How many jobs were answered, how many of them have a form that is new, how many
-/// a fill that there is room for now, how many were answered alike, and how many
-/// lines of the others changed that begin with a word.
+/// a fill that there is room for now, how many were answered alike in all lines that
+/// there were before, how many lines of the others changed, and how many are new.
 #[derive(Default)]
 struct Changes {
     jobs: u64,
     newly_spelled: u64,
     newly_fillable: u64,
     alike: u64,
-    lines: BTreeMap<String, u64>,
+    changed: Lines,
+    new: Lines,
 }
 
 impl Changes {
@@ -57,12 +78,12 @@ impl Changes {
             self.newly_fillable += 1;
             return;
         }
-        let changed = changed_lines(now, before);
+        let Difference { changed, new } = difference(now, before);
         self.alike += u64::from(changed.is_empty());
         for [now, before] in changed {
-            let line = if now.is_empty() { before } else { now };
-            *self.lines.entry(word_of(line).to_string()).or_default() += 1;
+            self.changed.see(if now.is_empty() { before } else { now });
         }
+        new.into_iter().for_each(|line| self.new.see(line));
     }
 }
 
@@ -102,15 +123,15 @@ fn main() -> ExitCode {
             newly_spelled,
             newly_fillable,
             alike,
-            lines,
+            changed,
+            new,
         } = changes;
         println!(
             "{jobs} jobs, {newly_spelled} newly spelled, {newly_fillable} newly fillable, \
              {alike} answered alike"
         );
-        for (word, count) in lines {
-            println!("{count} lines changed that begin with {word}");
-        }
+        changed.print("changed");
+        new.print("are new");
     });
     ExitCode::SUCCESS
 }

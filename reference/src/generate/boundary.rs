@@ -2,6 +2,7 @@
 
 mod corners;
 mod gaps;
+mod positions;
 mod shapes;
 mod spellings;
 
@@ -37,6 +38,8 @@ pub fn boundary_jobs() -> Vec<BoundaryJob> {
         corners::far_corners(),
         corners::crossed_tiles(),
         halves_of_a_wide_window(),
+        positions::all_alike(),
+        positions::one_square_off_a_bound(),
         file_ends(),
     ]
     .into_iter()
@@ -224,31 +227,41 @@ fn greatest_amounts() -> Vec<BoundaryJob> {
     ]
 }
 
+/// Metal of this width and height from a corner on, and with its last row one square
+/// short, and one square long; each with what it is called.
+fn one_square_off([x, y]: [u64; 2], [width, height]: [u64; 2]) -> [(&'static str, [Line; 2]); 3] {
+    let last = y + height - 1;
+    [
+        (" less one square", width - 1),
+        ("", width),
+        (" and one square", width + 1),
+    ]
+    .map(|(difference, last_width)| {
+        let metal = [
+            Line::shape(Kind::Drawn, [x, y, x + width, last]),
+            Line::shape(Kind::Drawn, [x, last, x + last_width, last + 1]),
+        ];
+        (difference, metal)
+    })
+}
+
 /// Densities that are exact halves under the widest window whose side is a
 /// multiple of 8: 312.5 where a 32nd of it is covered and 937.5 where three are;
-/// each also with the last row of its metal one square short, and one square long.
+/// each also with one square less, and one more.
 fn halves_of_a_wide_window() -> Vec<BoundaryJob> {
     let eighth = 8191;
-    let around = |density: &str, width: u64, height: u64| {
-        let last = height - 1;
-        [
-            (" less one square", width - 1),
-            ("", width),
-            (" and one square", width + 1),
-        ]
-        .map(|(difference, last_width)| {
-            let lines = [
-                Line::Head([8 * eighth, 8 * eighth, 1, 0, 0, 10_000, 0, 6], None),
-                Line::shape(Kind::Drawn, [0, 0, width, last]),
-                Line::shape(Kind::Drawn, [0, last, last_width, height]),
-                Line::End,
-            ];
-            accepted(format!("density {density}{difference}"), bytes_of(&lines))
-        })
+    let head = Line::Head([8 * eighth, 8 * eighth, 1, 0, 0, 10_000, 0, 6], None);
+    let around = |density: &'static str, sides: [u64; 2]| {
+        one_square_off([0, 0], sides)
+            .into_iter()
+            .map(move |(difference, metal)| {
+                let file = bytes_of(&[&[head], &metal[..], &[Line::End]].concat());
+                accepted(format!("density {density}{difference}"), file)
+            })
     };
-    let down = around("312.5", 2 * eighth, eighth);
-    let up = around("937.5", 3 * eighth, 2 * eighth);
-    down.into_iter().chain(up).collect()
+    let down = around("312.5", [2 * eighth, eighth]);
+    let up = around("937.5", [3 * eighth, 2 * eighth]);
+    down.chain(up).collect()
 }
 
 fn file_ends() -> Vec<BoundaryJob> {

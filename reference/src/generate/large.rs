@@ -3,6 +3,7 @@
 //! Their fills are mostly what a tile can take for sure, so that a unit which is
 //! more careful at corners accepts them too and can be timed beside this one.
 
+mod bounds;
 mod gaps;
 
 use super::corners::cautious_areas;
@@ -57,6 +58,17 @@ pub fn large_jobs() -> Vec<LargeJob> {
         named("gap of 8,000", gaps::around_a_diagonal(8000)),
         named("gap of 65,535", gaps::around_a_circle(65_535)),
         named("single tile", gaps::in_a_single_tile(1500)),
+        named("one rectangle", bounds::one_rectangle()),
+        named("bars at a bound", bounds::bars_at_a_bound()),
+        named("bounds under bars", bounds::bounds_under_bars()),
+        named(
+            "bounds, small windows",
+            bounds::bounds_among_different_sides(2),
+        ),
+        named(
+            "bounds, wide windows",
+            bounds::bounds_among_different_sides(16),
+        ),
     ]
 }
 
@@ -75,7 +87,7 @@ fn bare_job(tile: u64, tiles: u64, cut: u64) -> Job {
 }
 
 /// The job's file, its last fills left out as far as it would be too long.
-fn within_limit(job: &Job) -> Vec<u8> {
+pub(super) fn within_limit(job: &Job) -> Vec<u8> {
     let mut lines = lines_of(job);
     let mut bytes = bytes_of(&lines);
     while bytes.len() > LARGEST_FILE {
@@ -88,7 +100,11 @@ fn within_limit(job: &Job) -> Vec<u8> {
 }
 
 /// Boxes in a grid of up to 16 across, no two with a side on one line.
-fn grid_of_different_sides(random: &mut Random, size: u64, across: u64) -> Vec<[u64; 4]> {
+pub(super) fn grid_of_different_sides(
+    random: &mut Random,
+    size: u64,
+    across: u64,
+) -> Vec<[u64; 4]> {
     let cell = size / across;
     let step = cell / (2 * across);
     let mut line = |place: u64, slot: u64| place * cell + slot * step + random.below(step);
@@ -310,7 +326,7 @@ pub fn large_job(random: &mut Random) -> Vec<u8> {
 }
 
 /// An amount for some of the tiles, often all that the tile can take.
-fn large_fills(random: &mut Random, fillable: &[u64]) -> Vec<u64> {
+pub(super) fn large_fills(random: &mut Random, fillable: &[u64]) -> Vec<u64> {
     let share = random.pick(&[0, 10, 50, 100]);
     let mut amount = |&most: &u64| {
         if !random.percent(share) {

@@ -109,7 +109,7 @@ fn halving_window(random: &mut Random, longest: u64) -> (u64, u64) {
 }
 
 /// Boxes for shapes, no two of which overlap.
-fn boxes(random: &mut Random, size: u64) -> Vec<[u64; 4]> {
+pub(super) fn boxes(random: &mut Random, size: u64) -> Vec<[u64; 4]> {
     let whole = [0, 0, size, size];
     let mut boxes = match random.below(10) {
         0 => Vec::new(),

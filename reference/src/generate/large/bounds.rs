@@ -1,0 +1,96 @@
+//! Jobs that are heavy for the counting of positions, by where their bounds are.
+
+use super::{bare_job, grid_of_different_sides, windows_alike};
+use crate::fast;
+use crate::generate::kinds::drawn;
+use crate::generate::random::Random;
+use crate::job::{Job, LARGEST_SIDE};
+
+/// The widest layout, under windows of so many of its tiles.
+fn widest(cut: u64) -> Job {
+    bare_job(LARGEST_SIDE / 51, 51, cut)
+}
+
+/// The ten-thousandth part of a window, which is a whole number of squares.
+fn bound_step(job: &Job) -> u64 {
+    let square = job.window * job.window;
+    assert!(square.is_multiple_of(10_000));
+    square / 10_000
+}
+
+/// A rectangle that has one square more than the upper bound, so that its windows
+/// are over the bound just if they hold all of it. Half of it is the lower bound,
+/// along a curve.
+pub(super) fn one_rectangle() -> Job {
+    let bare = widest(20);
+    let (step, middle) = (bound_step(&bare), bare.size / 2);
+    let lengths = bare.window / 2..bare.window;
+    let is_beside = |width: u64| move |height: &u64| width * height % step == 1;
+    let (width, height) = lengths
+        .clone()
+        .find_map(|width| Some((width, lengths.clone().find(is_beside(width))?)))
+        .expect("a rectangle of such an area");
+    let ends = |length: u64| [middle - length / 2, middle - length / 2 + length];
+    let ([x1, x2], [y1, y2]) = (ends(width), ends(height));
+    let upper = width * height / step;
+    Job {
+        lower: upper / 2,
+        upper,
+        shapes: drawn(vec![[x1, y1, x2, y2]]),
+        ..bare
+    }
+}
+
+/// Bars that cover a quarter of every window, and single squares of which every
+/// window has one: all positions are over the bound by that.
+pub(super) fn bars_at_a_bound() -> Job {
+    let bare = widest(20);
+    let (size, room) = (bare.size, bare.window / 25);
+    let bar = |left: u64| [left, 0, left + room / 4, size];
+    let bars = (0..size - room / 4).step_by(room as usize).map(bar);
+    // Off the bars, whose rooms all windows' sides are a multiple of.
+    let places = |first: u64| (first..size).step_by(bare.window as usize);
+    let square = |x: u64, y: u64| [x, y, x + 1, y + 1];
+    let squares = places(room / 2).flat_map(|x| places(0).map(move |y| square(x, y)));
+    let shapes = drawn(bars.chain(squares).collect());
+    Job {
+        lower: 2500,
+        upper: 2500,
+        shapes,
+        ..bare
+    }
+}
+
+/// Bars under which windows differ by little, and along the bars not at all.
+pub(super) fn bounds_under_bars() -> Job {
+    with_bounds_among_areas(windows_alike())
+}
+
+/// 256 shapes with sides on different lines, under windows of so many tiles.
+pub(super) fn bounds_among_different_sides(cut: u64) -> Job {
+    let bare = widest(cut);
+    let boxes = grid_of_different_sides(&mut Random::new(9), bare.size, 16);
+    with_bounds_among_areas(Job {
+        shapes: drawn(boxes),
+        ..bare
+    })
+}
+
+/// Bounds that about a third of the positions are under, and a third over.
+fn with_bounds_among_areas(job: Job) -> Job {
+    let mut random = Random::new(10);
+    let cover = fast::metal_cover(&job);
+    let mut place = || random.below(job.last_position() + 1);
+    let mut area = || {
+        let (x, y) = (place(), place());
+        cover.area([x, y, x + job.window, y + job.window])
+    };
+    let mut areas: Vec<u64> = (0..3000).map(|_| area()).collect();
+    areas.sort_unstable();
+    let bound = |area: u64| 10_000 * area / (job.window * job.window);
+    Job {
+        lower: bound(areas[1000]),
+        upper: bound(areas[2000]),
+        ..job
+    }
+}
