@@ -22,6 +22,7 @@ use Rattle.fill.specs.declared.Failing.the-variants.{Nowhere, At}
 use Rattle.fill.specs.declared.Verdict.the-variants.{Safe, Broken}
 use Rattle.spacing.specs.Eligible.{tile}
 use Rattle.geometry.specs.Bounds.{keepsUpper, keepsLower}
+use Rattle.geometry.proofs.Bounding.{keeps-less, keeps-more}
 use Rattle.fill.specs.Judge.{load, standardTiles, bloatedTiles, shrunkTiles, failingAt, startsAcross, standardFailing, marginFailing, judged, verdictOf}
 use Rattle.fill.specs.Placement.{Placement, chosenArea, placedSum, keeps}
 use Rattle.fill.proofs.Tiles.{box-tiles}
@@ -97,14 +98,6 @@ reach side i cut across w x e h k = go (le-or-lt (suc (i + cut)) across)
     go : (suc (i + cut) ≤ across) ⊎ (across < suc (i + cut)) → x + w ≤ min (suc (i + cut)) across * side
     go (inl l) = rw (min-eq-left l) (omega (arith, suc-mul (i + cut) side, add-mul i cut side))
     go (inr l) = rw (min-eq-right (le-of-lt l)) k
-
-keeps-less : (plan : Plan) (s t : ℕ) → s ≤ t → T (keepsUpper (plan .upper) (plan .window) t) → T (keepsUpper (plan .upper) (plan .window) s)
-keeps-less plan s t h k =
-    let most = plan .upper * plan .window * plan .window in le→leb (10000 * s) most (omega (arith, leb→le (10000 * t) most k))
-
-keeps-more : (plan : Plan) (s t : ℕ) → s ≤ t → T (keepsLower (plan .lower) (plan .window) s) → T (keepsLower (plan .lower) (plan .window) t)
-keeps-more plan s t h k =
-    let least = plan .lower * plan .window * plan .window in le→leb least (10000 * t) (omega (arith, leb→le least (10000 * s) k))
 
 -- a start (i, j) whose sum breaks the bound b, where all starts before it keep both bounds: rows in order, in a row columns in order
 pub record FirstBroken (plan : Plan) (total : ℕ → ℕ → ℕ) (b : Bound) (i j : ℕ) : Type 0 where
@@ -215,8 +208,8 @@ module _ (ks : List Keepout) (rs : List Rect) (amounts : List ℕ) (plan : Plan)
           (startsAcross plan) nowhere (x / side) (y / side) (start-small x y pos hx hy x hx) (start-small x y pos hx hy y hy))
 
       go : (b : Bound) → T (keeps b plan (placed x y))
-      go Over = keeps-less plan (placed x y) forUpper (bloated-more x y pos hx hy) (both .0)
-      go Under = keeps-more plan forLower (placed x y) (shrunk-less x y pos hx hy) (both .1)
+      go Over = keeps-less (plan .upper) (plan .window) (placed x y) forUpper (bloated-more x y pos hx hy) (both .0)
+      go Under = keeps-more (plan .lower) (plan .window) forLower (placed x y) (shrunk-less x y pos hx hy) (both .1)
 
   -- the sum of a window on the tile grid is its tiles' load
   on-grid : (i j : ℕ) → i ≤ across - cut → j ≤ across - cut → placed (i * side) (j * side) ≡ boxSum (standardTiles plan i j) loads

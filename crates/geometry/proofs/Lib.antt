@@ -4,5 +4,6 @@ pub mod Tables
 pub mod Totals
 pub mod Extremes
 pub mod Sharing
+pub mod Bounding
 pub mod Cutting
 pub mod Bends

@@ -40,6 +40,7 @@ facts-run st f =
       window-tiles = h .window-tiles;
       layout-tiles = h .size-tiles;
       cut-fits = h .cut-tiles;
+      bounds-order = h .bounds-order;
       amounts-fit = f .fillable;
     }
 
@@ -58,6 +59,7 @@ facts-ready st f =
       window-fits = h .window-most;
       small = omega (arith, h .size-most);
       accurate = h .accuracy-most;
+      bounds-order = h .bounds-order;
       planned = record {
         tiled = record {
           layer = f .layer;

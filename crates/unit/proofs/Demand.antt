@@ -45,6 +45,7 @@ use Rattle.forms.specs.Forms.{tileSide, tilesAcross}
 use Rattle.jobfile.specs.Filling.{keepouts, planOf}
 use Rattle.jobfile.specs.Faults.{Standing, roomOf}
 use Rattle.unit.specs.Answering.{quickOf, answerFor, answerOf, quickIn}
+use Rattle.unit.proofs.Tallying.{positions-kept}
 use Rattle.unit.proofs.Metal.{sum-of-kinds, area-of-kinds, eligible-clear}
 use Rattle.unit.specs.Promise.{shapesAt, RealWindow, StartOf, EndsWith, ExactPromise, levelIn, BracketPromise, LevelPromise, QuickPromise, FillPromise, CountPromise, CountsPromise, DensityOff, DensityPromise, Promises}
 
@@ -58,6 +59,7 @@ pub record Runs (st : Standing) : Type 0 where
   pub window-tiles : st .head .window ≡ st .head .cut * tileSide (st .head)
   pub layout-tiles : st .head .size ≡ tilesAcross (st .head) * tileSide (st .head)
   pub cut-fits : st .head .cut ≤ tilesAcross (st .head)
+  pub bounds-order : st .head .lower ≤ st .head .upper
   pub amounts-fit : (i j : ℕ) → i < tilesAcross (st .head) → j < tilesAcross (st .head) →
       numberAt (st .amounts) (tilesAcross (st .head)) i j ≤ roomOf st i j
 
@@ -321,6 +323,7 @@ promises-kept st k =
       quick = quick;
       counts = counts;
       density = density-kept st k;
+      positions = positions-kept st (k .bounds-order);
       fill = fill-kept st k;
     }
   where

@@ -22,6 +22,9 @@ use Rattle.fill.specs.declared.Plan.{Plan}
 use Rattle.fill.specs.declared.Verdict.{Verdict}
 use Rattle.fill.specs.Judge.{verdictOf}
 use Rattle.fill.specs.Sizes.{Planned}
+use Rattle.positions.specs.declared.Tally.{Tally}
+use Rattle.positions.specs.Tallies.{tallyOf}
+use Rattle.positions.specs.Counting.{Tallied}
 use Rattle.forms.specs.declared.Head.{Head}
 use Rattle.forms.specs.Forms.{tilesAcross}
 use Rattle.jobfile.specs.Filling.{planOf}
@@ -88,12 +91,24 @@ module _ (h : Head) (rects amounts : List ℕ) where
       rw (ex, eq, el)
       (record { max = exact-window-small Greatest r; min = exact-window-small Least r; floor = quick-window-small Greatest r; high = quick-window-small Least r })
 
-  pub answer-is : (x : Extremes) (q l : Quick) (k : Counts) (d : ℕ) (p : Plan) (v : Verdict) → x ≡ exactRun (rectsOf rects) (h .size) (h .window) →
+  pub answer-is : (x : Extremes) (q l : Quick) (k : Counts) (d : ℕ) (t : Tally) (p : Plan) (v : Verdict) → x ≡ exactRun (rectsOf rects) (h .size) (h .window) →
       q ≡ quick Greatest → l ≡ quick Least → k ≡ countsOf (rectsOf rects) (h .window) x q l → d ≡ density (h .window) (q .last .named .area) (q .last .limit) →
-      p ≡ planOf h → v ≡ verdictOf (rectsOf rects) amounts p →
-      _≡_ {A = Answer} (record { exact = x; greatest = q; least = l; counts = k; density = d; verdict = v }) (answerFor h (rectsOf rects) amounts)
+      t ≡ tallyOf (rectsOf rects) (h .size) (h .window) (h .lower) (h .upper) → p ≡ planOf h → v ≡ verdictOf (rectsOf rects) amounts p →
+      _≡_ {A = Answer} (record { exact = x; greatest = q; least = l; counts = k; density = d; positions = t; verdict = v }) (answerFor h (rectsOf rects) amounts)
   unfolding answerFor
-  answer-is x q l k d p v ex eq el ek ed ep ev = rw (ev, ep, ek, ed, ex, eq, el)
+  answer-is x q l k d t p v ex eq el ek ed et ep ev = rw (ev, ep, et, ek, ed, ex, eq, el)
+
+  -- what counting positions asks
+  pub tallied : Ready h rects amounts → Tallied rects (h .size) (h .window) (h .lower) (h .upper)
+  tallied r =
+      record {
+        layer = r .layer;
+        some-window = r .some-window;
+        window-fits = r .window-fits;
+        small = r .small;
+        order = r .bounds-order;
+        bounded = r .planned .upper;
+      }
 
   -- what judging the fill asks
   pub planned : Ready h rects amounts → {p : Plan} → p ≡ planOf h → Planned rects amounts p

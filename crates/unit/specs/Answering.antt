@@ -1,5 +1,5 @@
--- Document 01, "The program", with the line of document 02's request 1 and the counts of its request 2: what an accepted job is answered, and the
--- five lines that say it.
+-- Document 01, "The program", with the lines of document 02's requests 1 and 7 and the counts of its request 2: what an accepted job is answered,
+-- and the six lines that say it.
 use Prim.Native.Nat.{ℕ}
 use mathlib.Core.List.{List, [], _∷_, _++_}
 use Rattle.geometry.specs.declared.Rect.{Rect}
@@ -19,6 +19,8 @@ use Rattle.fill.specs.declared.Bound.the-variants.{Over, Under}
 use Rattle.fill.specs.declared.Verdict.{Verdict}
 use Rattle.fill.specs.declared.Verdict.the-variants.{Safe, Broken, Undecided}
 use Rattle.fill.specs.Judge.{verdictOf}
+use Rattle.positions.specs.declared.Tally.{Tally}
+use Rattle.positions.specs.Tallies.{tallyOf}
 use Rattle.spelling.specs.Text.{bytes}
 use Rattle.spelling.specs.Pattern.{spell}
 use Rattle.forms.specs.declared.Head.{Head}
@@ -43,7 +45,7 @@ countsOf rs w e q l =
     }
 
 -- the exact run, the quick runs for the greatest and for the least window, the shapes under the windows that these name, the density of the first
--- quick run's bracket and the verdict on the fill, by a list of rectangles
+-- quick run's bracket, the positions under, within and over the bounds, and the verdict on the fill, by a list of rectangles
 unfoldable pub answerFor : Head → List Rect → (amounts : List ℕ) → Answer
 answerFor h rs amounts =
     let e = exactRun rs (h .size) (h .window) in
@@ -55,6 +57,7 @@ answerFor h rs amounts =
       least = l;
       counts = countsOf rs (h .window) e q l;
       density = density (h .window) (q .last .named .area) (q .last .limit);
+      positions = tallyOf rs (h .size) (h .window) (h .lower) (h .upper);
       verdict = verdictOf rs amounts (planOf h);
     }
 
@@ -96,6 +99,10 @@ zoomLine s q shapes = zoomWord s ++ endWord (q .end) ++ levelPart s (q .done) (q
 abbrev pub densityLine : ℕ → List ℕ
 densityLine r = spell (bytes "(density #)\n") (r ∷ [])
 
+-- under, within, over
+abbrev pub positionsLine : Tally → List ℕ
+positionsLine t = spell (bytes "(positions # # #)\n") (t .under ∷ t .within ∷ t .over ∷ [])
+
 -- the paper's word for each bound, and the named start after it
 abbrev pub boundWord : Bound → List ℕ
 boundWord Over = bytes " over"
@@ -109,11 +116,12 @@ verdictLine Safe = bytes "(fill safe)\n"
 verdictLine (Broken b i j) = bytes "(fill broken" ++ failingStart b i j
 verdictLine (Undecided b i j) = bytes "(fill undecided" ++ failingStart b i j
 
--- the five lines
+-- the six lines
 unfoldable pub textOf : Answer → List ℕ
 textOf a =
     exactLine (a .exact) (a .counts)
     ++ zoomLine Greatest (a .greatest) (a .counts .floor)
     ++ zoomLine Least (a .least) (a .counts .high)
     ++ densityLine (a .density)
+    ++ positionsLine (a .positions)
     ++ verdictLine (a .verdict)

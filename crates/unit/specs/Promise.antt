@@ -3,7 +3,7 @@
 -- specs/Guarantee.antt makes it part of the unit's contracts.
 use Prim.Native.Nat.{ℕ, suc, _+_, _-_, _*_, _≤_, _<_}
 use mathlib.Core.Path.{_≡_}
-use mathlib.Core.Bool.{Bool, false}
+use mathlib.Core.Bool.{Bool, false, not, _&&_}
 use mathlib.Core.List.{List, [], _∷_}
 use mathlib.Core.Logic.{_⊎_}
 use lib.Dec.{T}
@@ -12,17 +12,20 @@ use Rattle.geometry.specs.declared.Spot.{Spot}
 use Rattle.geometry.specs.declared.Sense.{Sense}
 use Rattle.geometry.specs.Layout.{holds}
 use Rattle.geometry.specs.Extreme.{Bounded}
-use Rattle.geometry.specs.Positions.{windowArea, windowShapes, Position}
+use Rattle.geometry.specs.Positions.{windowArea, windowShapes, positions, Position}
 use Rattle.extremes.specs.Exact.{extremeIn}
 use Rattle.zoom.specs.declared.Level.{Level}
 use Rattle.zoom.specs.declared.Quick.{Quick}
 use Rattle.zoom.specs.Run.{lastLevel, levelStep, levelAt, lowEnd, highEnd, Brackets, Narrows, endNumber}
 use Rattle.spacing.specs.declared.Keepout.{Keepout}
 use Rattle.fill.specs.declared.Bound.{Bound}
+use Rattle.fill.specs.declared.Bound.the-variants.{Over, Under}
 use Rattle.fill.specs.declared.Verdict.{Verdict}
 use Rattle.spacing.specs.Eligible.{gapBetween, square}
 use Rattle.fill.specs.Judge.{boundNumber, verdictNumbers}
 use Rattle.fill.specs.Placement.{Placement, placedSum, keeps}
+use Rattle.positions.specs.declared.Tally.{Tally}
+use Rattle.positions.specs.Tallies.{positionsWhere}
 use Rattle.forms.specs.declared.Kind.{Kind}
 use Rattle.forms.specs.declared.Kind.the-variants.{Drawn, Dummy}
 use Rattle.forms.specs.declared.Shape.{Shape}
@@ -154,6 +157,30 @@ pub record DensityPromise (st : Standing) (q : Quick) (m d : ℕ) : Type 0 where
   -- where F is C, so after the exact search and after "met" for accuracy 0, it is the greatest density itself, rounded
   pub equal-ends : q .last .named .area ≡ q .last .limit → Rounds (10000 * m) (st .head .window * st .head .window) d
 
+-- an area of shapes alone keeps a bound, by the test of the verdict
+abbrev pub keepsAlone : Standing → Bound → (area : ℕ) → Bool
+keepsAlone st b area = keeps b (planOf (st .head)) area
+
+-- the number of the job's positions whose area of shapes alone passes a test
+abbrev pub countOf : Standing → (passes : ℕ → Bool) → ℕ
+countOf st passes = positionsWhere passes (rectangles (st .shapes)) (st .head .size) (st .head .window)
+
+-- the positions under, within and over the bounds, beside the exact run's minimum and maximum
+pub record PositionsPromise (st : Standing) (t : Tally) (least greatest : ℕ) : Type 0 where
+  -- each count is that of the positions that fail L, keep both bounds, or fail U, by the shapes alone
+  pub under : t .under ≡ countOf st (λ area. not (keepsAlone st Under area))
+  pub within : t .within ≡ countOf st (λ area. keepsAlone st Under area && keepsAlone st Over area)
+  pub over : t .over ≡ countOf st (λ area. not (keepsAlone st Over area))
+  -- together they are all positions, (N − W + 1) × (N − W + 1)
+  pub all : t .under + t .within + t .over ≡ positions (st .head .size) (st .head .window) * positions (st .head .size) (st .head .window)
+  -- none is under exactly if the minimum keeps L, and none over exactly if the maximum keeps U
+  pub none-under : t .under ≡ 0 → T (keepsAlone st Under least)
+  pub least-keeps : T (keepsAlone st Under least) → t .under ≡ 0
+  pub none-over : t .over ≡ 0 → T (keepsAlone st Over greatest)
+  pub greatest-keeps : T (keepsAlone st Over greatest) → t .over ≡ 0
+  -- where none is under and none over, every position keeps both bounds, by the shapes alone
+  pub clean : t .under ≡ 0 → t .over ≡ 0 → (b : Bound) (x y : ℕ) → PositionOf st x y → T (keepsAlone st b (areaAt st x y))
+
 -- a shape is one of a list
 pub data Among (s : Shape) : List Shape → Type 0 where
   first : {ss : List Shape} → Among s (s ∷ ss)
@@ -177,8 +204,8 @@ pub record FillPromise (st : Standing) (v : Verdict) : Type 0 where
   pub clear : (chosen : ℕ → ℕ → Bool) → Places st chosen → (x y : ℕ) → T (chosen x y) → (s : Shape) → Among s (st .shapes) →
       Clear (keepoutOf (st .head .gap) s) x y
 
--- the answer to an accepted job: both extremes, the quick run of each beside it, the shapes under the windows that these name, the density, and
--- the fill. The area of every window, and the shapes under it, are those of drawn metal and those of dummies together, so the bounds after "safe"
+-- the answer to an accepted job: both extremes, the quick run of each beside it, the shapes under the windows that these name, the density,
+-- the positions under, within and over the bounds, and the fill. The area of every window, and the shapes under it, are those of drawn metal and those of dummies together, so the bounds after "safe"
 -- include old dummies
 pub record Promises (st : Standing) (a : Answer) : Type 0 where
   pub both-kinds : (x y : ℕ) → areaAt st x y ≡ kindArea Drawn st x y + kindArea Dummy st x y
@@ -187,4 +214,5 @@ pub record Promises (st : Standing) (a : Answer) : Type 0 where
   pub quick : (s : Sense) → QuickPromise s st (quickIn s a) (extremeIn s (a .exact) .area)
   pub counts : CountsPromise st a
   pub density : DensityPromise st (a .greatest) (a .exact .greatest .area) (a .density)
+  pub positions : PositionsPromise st (a .positions) (a .exact .least .area) (a .exact .greatest .area)
   pub fill : FillPromise st (a .verdict)

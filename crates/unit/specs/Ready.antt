@@ -26,6 +26,7 @@ pub record Ready (h : Head) (rects amounts : List ℕ) : Type 0 where
   pub window-fits : h .window ≤ h .size
   pub small : h .size ≤ widest
   pub accurate : h .accuracy ≤ mostAccuracy
+  pub bounds-order : h .lower ≤ h .upper
   pub planned : Planned rects amounts (planOf h)
 
 -- the window of side w at a named corner ends where coordinates are small, and so do all that an answer names

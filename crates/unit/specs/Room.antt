@@ -24,6 +24,9 @@ zoomRoom = zoomWordRoom + endRoom + levelPartRoom
 abbrev pub densityRoom : ℕ
 densityRoom = 40
 
+abbrev pub positionsRoom : ℕ
+positionsRoom = 80
+
 abbrev pub boundRoom : ℕ
 boundRoom = 8
 
@@ -34,4 +37,4 @@ abbrev pub verdictRoom : ℕ
 verdictRoom = startRoom + 16
 
 abbrev pub answerRoom : ℕ
-answerRoom = exactRoom + zoomRoom + zoomRoom + densityRoom + verdictRoom
+answerRoom = exactRoom + zoomRoom + zoomRoom + densityRoom + positionsRoom + verdictRoom

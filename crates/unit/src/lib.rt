@@ -12,9 +12,9 @@ ghost use lib.ListN.{length};
 ghost use Rattle.unit.specs.Whole.{replyFor, codeOf};
 ghost use Rattle.unit.specs.Guarantee.{Guarantee, Reported};
 
-// The room that every answer fits, with 20 digits to each number: the five
-// lines take at most 200, 208, 208, 40 and 72 bytes.
-pub const ANSWER_ROOM: usize = 200 + 208 + 208 + 40 + 72;
+// The room that every answer fits, with 20 digits to each number: the six
+// lines take at most 200, 208, 208, 40, 80 and 72 bytes.
+pub const ANSWER_ROOM: usize = 200 + 208 + 208 + 40 + 80 + 72;
 
 // What the unit replies: the answer's length, or the number and line of the
 // fault that the job was refused for.

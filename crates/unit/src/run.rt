@@ -4,6 +4,7 @@ use fill::Verdict;
 use forms::Head;
 use geometry::Sense;
 use geometry::Spot;
+use positions::Tally;
 use sweep::ORDER_ROOM;
 use zoom::Asked;
 use zoom::Quick;
@@ -29,6 +30,7 @@ pub struct Answer {
     pub least: Quick, // the quick run for the least window
     pub counts: Counts, // the shapes under the windows that these name
     pub density: u64, // of the bracket of the greatest
+    pub positions: Tally, // under, within and over the bounds
     pub verdict: Verdict, // on the fill
 }
 
@@ -83,6 +85,7 @@ fn run_ordered(head: Head, rects: &[u64], order: &[usize], amounts: &[u64]) -> A
     let least = zoom::quick_run(Sense::Least, rects, order, asked, min);
     let counts = counts_of(rects, window, exact, greatest, least);
     let density = zoom::density(window, greatest.last.named.area, greatest.last.limit);
+    let positions = positions::count_positions(rects, size, window, head.lower, head.upper);
     let verdict = fill::judge(rects, order, amounts, jobfile::plan_of(head));
     Answer {
         exact,
@@ -90,6 +93,7 @@ fn run_ordered(head: Head, rects: &[u64], order: &[usize], amounts: &[u64]) -> A
         least,
         counts,
         density,
+        positions,
         verdict,
     }
 }

@@ -1,10 +1,11 @@
-// The answer's five lines, written by pattern into a lent buffer.
+// The answer's six lines, written by pattern into a lent buffer.
 use crate::run::Answer;
 use crate::run::Counts;
 use extremes::Extremes;
 use fill::Bound;
 use fill::Verdict;
 use geometry::Sense;
+use positions::Tally;
 use zoom::End;
 use zoom::Level;
 use zoom::Quick;
@@ -12,8 +13,8 @@ ghost use Prim.Native.Nat.{_+_, _*_, _≤_};
 ghost use mathlib.Core.List.{_++_};
 ghost use lib.ListN.{length};
 ghost use Rattle.spelling.specs.Pattern.{spell};
-ghost use Rattle.unit.specs.Answering.{exactLine, zoomWord, endWord, levelPart, zoomLine, densityLine, boundWord, failingStart, verdictLine, textOf};
-ghost use Rattle.unit.specs.Room.{numberRoom, exactRoom, zoomWordRoom, endRoom, levelPartRoom, zoomRoom, densityRoom, boundRoom, startRoom, verdictRoom, answerRoom};
+ghost use Rattle.unit.specs.Answering.{exactLine, zoomWord, endWord, levelPart, zoomLine, densityLine, positionsLine, boundWord, failingStart, verdictLine, textOf};
+ghost use Rattle.unit.specs.Room.{numberRoom, exactRoom, zoomWordRoom, endRoom, levelPartRoom, zoomRoom, densityRoom, positionsRoom, boundRoom, startRoom, verdictRoom, answerRoom};
 ghost use Rattle.unit.specs.Rendering.{WrittenIn};
 
 // Writes a pattern's text where there is room for the most digits that a number
@@ -125,6 +126,14 @@ fn write_density(density: u64, out: &mut [u8], at: usize) -> usize
     write_line(b"(density #)\n", &values, out, at)
 }
 
+fn write_positions(t: Tally, out: &mut [u8], at: usize) -> usize
+    requires { ⌜ at + positionsRoom ≤ length (now out) ⌝ }
+    ensures { λ r. ⌜ WrittenIn positionsRoom (now (out .entry)) at (positionsLine t) (now (out .exit)) r ⌝ }
+{
+    let values = [t.under, t.within, t.over];
+    write_line(b"(positions # # #)\n", &values, out, at)
+}
+
 fn write_bound(b: Bound, out: &mut [u8], at: usize) -> usize
     requires { ⌜ at + boundRoom ≤ length (now out) ⌝ }
     ensures { λ r. ⌜ WrittenIn boundRoom (now (out .entry)) at (boundWord b) (now (out .exit)) r ⌝ }
@@ -171,7 +180,7 @@ fn write_verdict(v: Verdict, out: &mut [u8], at: usize) -> usize
     }
 }
 
-// Writes the five lines.
+// Writes the six lines.
 pub(crate) fn write_answer(a: Answer, out: &mut [u8]) -> usize
     requires { ⌜ answerRoom ≤ length (now out) ⌝ }
     ensures { λ r. ⌜ WrittenIn answerRoom (now (out .entry)) 0 (textOf a) (now (out .exit)) r ⌝ }
@@ -180,10 +189,12 @@ pub(crate) fn write_answer(a: Answer, out: &mut [u8]) -> usize
     let greatest = a.greatest;
     let least = a.least;
     let counts = a.counts;
+    let positions = a.positions;
     let verdict = a.verdict;
     let first = write_exact(exact, counts, out, 0);
     let second = write_quick(Sense::Greatest, greatest, counts.floor, out, first);
     let third = write_quick(Sense::Least, least, counts.high, out, second);
     let fourth = write_density(a.density, out, third);
-    write_verdict(verdict, out, fourth)
+    let fifth = write_positions(positions, out, fourth);
+    write_verdict(verdict, out, fifth)
 }

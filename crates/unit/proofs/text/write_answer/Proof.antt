@@ -9,14 +9,19 @@ use Rattle.unit.proofs.text.write_answer.Tie as tie
 returns : tie.Need-returns
 unfolding textOf
 returns c =
-    let room = c .before .before .before .before .before .before .before .before .before .before .before .before .before .before .before .before .before .before .before .before .before .before .before .before .before .pre in
+    let room = c .before .before .before .before .before .before .before .before .before .before .before .before .before .before .before .before .before .before .before .before .before .before .before .before .before .before .before .before .before .before .pre in
     in-turn (omega (arith, room))
     (in-turn (omega (arith, room))
     (in-turn (omega (arith, room))
-    (in-turn (omega (arith, room)) (c .before .before .before .before .before .before .before .before .before .before .before .before .before .before .before .before .before .before .write-exact .ensures) (c .before .before .before .before .before .before .before .before .before .before .before .before .before .before .write-quick .ensures))
-    (c .before .before .before .before .before .before .before .before .before .before .write-quick2 .ensures))
-    (c .before .before .before .before .before .before .write-density .ensures))
+    (in-turn (omega (arith, room))
+    (in-turn (omega (arith, room)) (c .before .before .before .before .before .before .before .before .before .before .before .before .before .before .before .before .before .before .before .before .before .before .write-exact .ensures) (c .before .before .before .before .before .before .before .before .before .before .before .before .before .before .before .before .before .before .write-quick .ensures))
+    (c .before .before .before .before .before .before .before .before .before .before .before .before .before .before .write-quick2 .ensures))
+    (c .before .before .before .before .before .before .before .before .before .before .write-density .ensures))
+    (c .before .before .before .before .before .before .write-positions .ensures))
     (c .before .before .write-verdict .ensures)
 
 pub write-answer-spec : {M : Type 1} → statement M
-write-answer-spec = tie.close (tie.spec (λ c κs. search needs) (λ c κs. search needs) (λ c κs. search needs) (λ c κs. search needs) (λ c κs. search needs) (λ c. search needs) returns)
+write-answer-spec =
+    tie.close
+    (tie.spec (λ c κs. search needs) (λ c κs. search needs) (λ c κs. search needs) (λ c κs. search needs) (λ c κs. search needs) (λ c κs. search needs)
+    (λ c. search needs) returns)
