@@ -36,13 +36,14 @@ pub verdict-at : (h : Head) (rects amounts : List ℕ) {p : Plan} {v : Verdict} 
 unfolding answerFor
 verdict-at h rects amounts ep ev = rw ep at ev
 
-pub other-phase : (k : ℕ) (a : Answer) → (k ≡ 1 → ⊥) → (k ≡ 2 → ⊥) → (k ≡ 3 → ⊥) → (k ≡ 4 → ⊥) → 0 ≡ phaseNumber k a
-other-phase zero a p q r s = refl
-other-phase (suc zero) a p q r s = absurd (p refl)
-other-phase (suc (suc zero)) a p q r s = absurd (q refl)
-other-phase (suc (suc (suc zero))) a p q r s = absurd (r refl)
-other-phase (suc (suc (suc (suc zero)))) a p q r s = absurd (s refl)
-other-phase (suc (suc (suc (suc (suc n))))) a p q r s = refl
+pub other-phase : (k : ℕ) (a : Answer) → (k ≡ 1 → ⊥) → (k ≡ 2 → ⊥) → (k ≡ 3 → ⊥) → (k ≡ 4 → ⊥) → (k ≡ 5 → ⊥) → 0 ≡ phaseNumber k a
+other-phase zero a p q r s t = refl
+other-phase (suc zero) a p q r s t = absurd (p refl)
+other-phase (suc (suc zero)) a p q r s t = absurd (q refl)
+other-phase (suc (suc (suc zero))) a p q r s t = absurd (r refl)
+other-phase (suc (suc (suc (suc zero)))) a p q r s t = absurd (s refl)
+other-phase (suc (suc (suc (suc (suc zero))))) a p q r s t = absurd (t refl)
+other-phase (suc (suc (suc (suc (suc (suc n)))))) a p q r s t = refl
 
 -- a phase that was told by a test
 pub told-phase : (k m : ℕ) (a : Answer) {x : ℕ} → k ≡ m → x ≡ phaseNumber m a → x ≡ phaseNumber k a

@@ -76,6 +76,15 @@ fn judged_number(head: Head, rects: &[u64], order: &[usize], amounts: &[u64]) ->
     number_of(fill::judge(rects, order, amounts, jobfile::plan_of(head)))
 }
 
+// The positions within the bounds. The order of the sides plays no part.
+fn within(head: Head, rects: &[u64], amounts: &[u64]) -> u64
+    requires { ⌜ Ready head (now rects) (now amounts) ⌝ }
+    ensures { λ r. ⌜ r ≡ answerFor head (rectsOf (now (rects .entry))) (now (amounts .entry)) .positions .within ⌝ }
+{
+    let tally = positions::count_positions(rects, head.size, head.window, head.lower, head.upper);
+    tally.within
+}
+
 fn ordered_phase(phase: u64, head: Head, rects: &[u64], order: &[usize], amounts: &[u64]) -> u64
     requires { ⌜ Ready head (now rects) (now amounts) ⌝ }
     requires { ⌜ Swept (now rects) (now order) ⌝ }
@@ -92,6 +101,9 @@ fn ordered_phase(phase: u64, head: Head, rects: &[u64], order: &[usize], amounts
     }
     if phase == 4 {
         return judged_number(head, rects, order, amounts);
+    }
+    if phase == 5 {
+        return within(head, rects, amounts);
     }
     0
 }
@@ -123,8 +135,8 @@ fn job_phase(phase: u64, job: Job) -> u64
 }
 
 // Reads a file, and runs one phase of an accepted one: 1 the exact run, 2 and 3
-// that and the quick run for the greatest or the least window, 4 the verdict, any
-// other none.
+// that and the quick run for the greatest or the least window, 4 the verdict, 5 the
+// positions, any other none.
 #[no_mangle]
 pub extern "C" fn density_phase(file: &[u8], phase: u64) -> u64
     ensures { λ r. ⌜ r ≡ phaseOf phase (outcomeOf unitLimits (now (file .entry))) ⌝ }

@@ -19,12 +19,16 @@ returns-4 : tie.Need-returns-4
 returns-4 c = told-phase _ 4 _ (c .before .if4 .taken) (c .judged-number .ensures)
 
 returns-5 : tie.Need-returns-5
-returns-5 c =
-    let s = c .before .before .before .before .before .before .before in
+returns-5 c = told-phase _ 5 _ (c .before .if5 .taken) (c .within .ensures)
+
+returns-6 : tie.Need-returns-6
+returns-6 c =
+    let s = c .before .before .before .before .before .before .before .before in
     other-phase (s .args .phase) (answerFor (s .args .head) (rectsOf (s .args .rects .now)) (s .args .amounts .now))
-    (c .before .before .before .if1 .left) (c .before .before .if2 .left) (c .before .if3 .left) (c .if4 .left)
+    (c .before .before .before .before .if1 .left) (c .before .before .before .if2 .left) (c .before .before .if3 .left) (c .before .if4 .left) (c .if5 .left)
 
 pub ordered-phase-spec : {M : Type 1} → statement M
 ordered-phase-spec =
     tie.close
-    (tie.spec (λ c κs. search needs) returns (λ c κs. search needs) returns-2 (λ c κs. search needs) returns-3 (λ c κs. search needs) returns-4 returns-5)
+    (tie.spec (λ c κs. search needs) returns (λ c κs. search needs) returns-2 (λ c κs. search needs) returns-3 (λ c κs. search needs) returns-4
+    (λ c κs. search needs) returns-5 returns-6)
