@@ -25,6 +25,7 @@ linesCorner =
     ∷ "(zoom met (levels 1) (floor 1 0 0 1) (ceiling 1) (kept 0))"
     ∷ "(zoommin exact (levels 5) (low 1) (high 1 0 0 1) (kept 0))"
     ∷ "(density 156)"
+    ∷ "(positions 0 1 0)"
     ∷ "(fill safe)"
     ∷ []
 

@@ -52,6 +52,7 @@ dummyRows =
     ∷ "(zoom exact (levels 4) (floor 8 1 1 2) (ceiling 8) (kept 0))"
     ∷ "(zoommin exact (levels 4) (low 1) (high 1 0 4 1) (kept 0))"
     ∷ "(density 5000)"
+    ∷ "(positions 0 25 0)"
     ∷ "(fill undecided over 0 0)"
     ∷ []))
     ∷ row "a dummy on drawn metal"
@@ -67,6 +68,7 @@ dummyRows =
     ∷ "(zoom exact (levels 4) (floor 4 2 2 1) (ceiling 4) (kept 0))"
     ∷ "(zoommin exact (levels 4) (low 1) (high 1 0 0 1) (kept 0))"
     ∷ "(density 2500)"
+    ∷ "(positions 0 25 0)"
     ∷ "(fill safe)"
     ∷ []))
     ∷ row "both kinds, one unit of fill too many"
@@ -91,6 +93,7 @@ dummyRows =
     ∷ "(zoom met (levels 1) (floor 4 0 0 1) (ceiling 4) (kept 0))"
     ∷ "(zoommin exact (levels 3) (low 4) (high 4 0 0 1) (kept 0))"
     ∷ "(density 10000)"
+    ∷ "(positions 0 1 0)"
     ∷ "(fill undecided under 0 0)"
     ∷ []))
     ∷ row "a third shape of two allowed, a rectangle"

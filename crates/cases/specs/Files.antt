@@ -1,4 +1,4 @@
--- Files by their bytes: job A's five lines, the other ends and verdicts, and refusals with their number and line.
+-- Files by their bytes: job A's six lines, the other ends and verdicts, and refusals with their number and line.
 use mathlib.Core.List.{List, [], _∷_}
 use Rattle.spelling.specs.Text.{bytes}
 use Rattle.cases.specs.Row.{Row, row}
@@ -49,6 +49,7 @@ fileRows =
     ∷ "(zoom stopped (levels 1) (floor 1 0 0 1) (ceiling 4) (kept 3))"
     ∷ "(zoommin stopped (levels 1) (low 0) (high 1 0 0 1) (kept 4))"
     ∷ "(density 1562)"
+    ∷ "(positions 0 25 0)"
     ∷ "(fill safe)"
     ∷ []))
     ∷ row "exact after the last level"
@@ -58,6 +59,7 @@ fileRows =
     ∷ "(zoom exact (levels 2) (floor 4 1 1 1) (ceiling 4) (kept 0))"
     ∷ "(zoommin exact (levels 2) (low 1) (high 1 0 0 1) (kept 0))"
     ∷ "(density 4444)"
+    ∷ "(positions 0 9 0)"
     ∷ "(fill safe)"
     ∷ []))
     ∷ row "stopped before the exact search"
@@ -67,6 +69,7 @@ fileRows =
     ∷ "(zoom stopped (levels 1) (floor 1 0 0 1) (ceiling 4) (kept 1))"
     ∷ "(zoommin stopped (levels 1) (low 0) (high 1 0 0 1) (kept 1))"
     ∷ "(density 2778)"
+    ∷ "(positions 0 9 0)"
     ∷ "(fill safe)"
     ∷ []))
     ∷ row "the least met above 0, a level later than the greatest"
@@ -76,6 +79,7 @@ fileRows =
     ∷ "(zoom met (levels 2) (floor 12 0 2 1) (ceiling 15) (kept 2))"
     ∷ "(zoommin met (levels 3) (low 2) (high 3 2 0 1) (kept 1))"
     ∷ "(density 8438)"
+    ∷ "(positions 0 9 0)"
     ∷ "(fill safe)"
     ∷ []))
     ∷ row "the least stopped, at one thousandth less"
@@ -85,6 +89,7 @@ fileRows =
     ∷ "(zoom met (levels 2) (floor 12 0 2 1) (ceiling 15) (kept 2))"
     ∷ "(zoommin stopped (levels 3) (low 2) (high 3 2 0 1) (kept 1))"
     ∷ "(density 8438)"
+    ∷ "(positions 0 9 0)"
     ∷ "(fill safe)"
     ∷ []))
     ∷ row "four windows, each with its own count; floor and high are of an earlier level and have the areas of max and min"
@@ -95,6 +100,7 @@ fileRows =
     ∷ "(zoom exact (levels 4) (floor 15 4 4 4) (ceiling 15) (kept 0))"
     ∷ "(zoommin exact (levels 4) (low 2) (high 2 0 2 2) (kept 0))"
     ∷ "(density 9375)"
+    ∷ "(positions 0 25 0)"
     ∷ "(fill undecided over 1 0)"
     ∷ []))
     ∷ row "a shape around the greatest window"
@@ -104,6 +110,7 @@ fileRows =
     ∷ "(zoom exact (levels 4) (floor 16 2 2 1) (ceiling 16) (kept 0))"
     ∷ "(zoommin exact (levels 4) (low 9) (high 9 0 0 1) (kept 0))"
     ∷ "(density 10000)"
+    ∷ "(positions 0 25 0)"
     ∷ "(fill undecided over 0 0)"
     ∷ []))
     ∷ row "312 and a half, rounded to the even neighbour below"
@@ -113,6 +120,7 @@ fileRows =
     ∷ "(zoom met (levels 1) (floor 2 0 0 1) (ceiling 2) (kept 0))"
     ∷ "(zoommin exact (levels 5) (low 2) (high 2 0 0 1) (kept 0))"
     ∷ "(density 312)"
+    ∷ "(positions 0 1 0)"
     ∷ "(fill safe)"
     ∷ []))
     ∷ row "937 and a half, rounded to the even neighbour above"
@@ -122,6 +130,7 @@ fileRows =
     ∷ "(zoom met (levels 1) (floor 6 0 0 1) (ceiling 6) (kept 0))"
     ∷ "(zoommin exact (levels 5) (low 6) (high 6 0 0 1) (kept 0))"
     ∷ "(density 938)"
+    ∷ "(positions 0 1 0)"
     ∷ "(fill safe)"
     ∷ []))
     ∷ row "broken under"
@@ -131,6 +140,7 @@ fileRows =
     ∷ "(zoom met (levels 1) (floor 0 0 0 0) (ceiling 0) (kept 0))"
     ∷ "(zoommin met (levels 1) (low 0) (high 0 0 0 0) (kept 0))"
     ∷ "(density 0)"
+    ∷ "(positions 4 0 0)"
     ∷ "(fill broken under 1 0)"
     ∷ []))
     ∷ row "undecided under, one tile to the window"
@@ -140,6 +150,7 @@ fileRows =
     ∷ "(zoom met (levels 1) (floor 0 0 0 0) (ceiling 0) (kept 0))"
     ∷ "(zoommin met (levels 1) (low 0) (high 0 0 0 0) (kept 0))"
     ∷ "(density 0)"
+    ∷ "(positions 1 0 0)"
     ∷ "(fill undecided under 0 0)"
     ∷ []))
     ∷ []

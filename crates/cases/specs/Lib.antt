@@ -8,4 +8,5 @@ pub mod Printing
 pub mod Files
 pub mod Dummies
 pub mod Corners
+pub mod Positions
 pub mod Table

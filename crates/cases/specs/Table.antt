@@ -9,6 +9,7 @@ use Rattle.cases.specs.Fill.{fillRows}
 use Rattle.cases.specs.Files.{fileRows}
 use Rattle.cases.specs.Dummies.{dummyRows}
 use Rattle.cases.specs.Corners.{cornerRows}
+use Rattle.cases.specs.Positions.{positionRows}
 
 abbrev pub table : List Row
-table = areaRows ++ exactRows ++ zoomRows ++ fillRows ++ fileRows ++ dummyRows ++ cornerRows
+table = areaRows ++ exactRows ++ zoomRows ++ fillRows ++ fileRows ++ dummyRows ++ cornerRows ++ positionRows
