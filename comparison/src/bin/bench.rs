@@ -64,6 +64,8 @@ struct Times {
     /// The quick run for the least.
     least: Milliseconds,
     positions: Milliseconds,
+    /// The positions where the bounds lie among the areas.
+    among_areas: Milliseconds,
     verdict: Milliseconds,
     answer: Milliseconds,
 }
@@ -82,7 +84,7 @@ fn least_time<T>(task: impl Fn() -> T) -> f64 {
 type Task<'a> = (&'a [u8], Option<u64>);
 
 /// How many tasks of a library are timed.
-const TASKS: usize = 8;
+const TASKS: usize = 10;
 
 fn run(library: Library, (file, phase): Task) {
     match phase {
@@ -95,14 +97,25 @@ fn run(library: Library, (file, phase): Task) {
     }
 }
 
+/// A heavy job: its file, the file without its fills, and that with bounds among
+/// its areas.
+struct Files {
+    whole: Vec<u8>,
+    unfilled: Vec<u8>,
+    bounded: Vec<u8>,
+}
+
 /// The times of each library, all tasks in turn.
-fn proved_times(libraries: &[Library], file: &[u8], unfilled_file: &[u8]) -> Vec<Times> {
+fn proved_times(libraries: &[Library], files: &Files) -> Vec<Times> {
+    let [file, unfilled_file, bounded_file] = [&files.whole, &files.unfilled, &files.bounded];
     let tasks: [Task; TASKS] = [
         (unfilled_file, Some(0)),
         (unfilled_file, Some(1)),
         (unfilled_file, Some(2)),
         (unfilled_file, Some(3)),
         (unfilled_file, Some(5)),
+        (bounded_file, Some(0)),
+        (bounded_file, Some(5)),
         (file, Some(0)),
         (file, Some(4)),
         (file, None),
@@ -120,7 +133,8 @@ impl Times {
     /// From the times of a library's tasks.
     fn of_library(times: &[f64; TASKS]) -> Times {
         // Those of the quick runs have the exact run in them.
-        let &[unfilled, exact, greatest, least, positions, reading, verdict, answer] = times;
+        let &[unfilled, exact, greatest, least, positions, bounded, among_areas, reading, verdict, answer] =
+            times;
         Times {
             unfilled: above_noise(unfilled),
             fills: difference(reading, unfilled),
@@ -129,6 +143,7 @@ impl Times {
             greatest: difference(greatest, exact),
             least: difference(least, exact),
             positions: difference(positions, unfilled),
+            among_areas: difference(among_areas, bounded),
             verdict: difference(verdict, reading),
             answer: above_noise(answer),
         }
@@ -137,7 +152,9 @@ impl Times {
 
 /// The cover, which serves all phases behind the reader, counts with the
 /// exact run.
-fn second_times(file: &[u8], unfilled_file: &[u8], job: &Job) -> Times {
+fn second_times(files: &Files, job: &Job) -> Times {
+    let [file, unfilled_file, bounded_file] = [&files.whole, &files.unfilled, &files.bounded];
+    let bounded = fast::read(bounded_file).expect("large jobs are valid");
     let cover = fast::metal_cover(job);
     let extremes = fast::exact_run(job, &cover);
     let quick = |sense| least_time(|| fast::quick_run(job, &cover, sense, &extremes));
@@ -152,6 +169,7 @@ fn second_times(file: &[u8], unfilled_file: &[u8], job: &Job) -> Times {
         greatest: above_noise(quick(Sense::Greatest)),
         least: above_noise(quick(Sense::Least)),
         positions: above_noise(least_time(|| fast::positions(job, &cover))),
+        among_areas: above_noise(least_time(|| fast::positions(&bounded, &cover))),
         verdict: above_noise(least_time(|| fast::verdict(job, &cover))),
         answer: above_noise(least_time(|| answer(file, &mut [0; ANSWER_ROOM]))),
     }
@@ -236,6 +254,7 @@ fn print_table(libraries: &[Times], second: &Times, [strips, all]: [Milliseconds
     row("quick run, greatest", |times| times.greatest);
     row("quick run, least", |times| times.least);
     row("positions", |times| times.positions);
+    row("  bounds among the areas", |times| times.among_areas);
     row("verdict", |times| times.verdict);
     row("whole answer", |times| times.answer);
     print_ratio(
@@ -248,12 +267,17 @@ fn print_table(libraries: &[Times], second: &Times, [strips, all]: [Milliseconds
 }
 
 fn bench(earlier: Option<Library>, large: &LargeJob) {
-    let (file, unfilled_file) = (&large.job, large.without_fills());
+    let file = &large.job;
+    let files = Files {
+        whole: file.clone(),
+        unfilled: large.without_fills(),
+        bounded: large.with_bounds_among_areas(),
+    };
     let job = fast::read(file).expect("large jobs are valid");
     println!("{} ({} bytes)", large.name, file.len());
     let libraries: Vec<Library> = once(LINKED).chain(accepting(earlier, file)).collect();
-    let proved = proved_times(&libraries, file, &unfilled_file);
-    let second = second_times(file, &unfilled_file, &job);
+    let proved = proved_times(&libraries, &files);
+    let second = second_times(&files, &job);
     let loops = [plain::summing_strips, plain::summing_all]
         .map(|areas| above_noise(least_time(|| areas(&job))));
     print_changes(&libraries, file);

@@ -1,19 +1,17 @@
 -- The candidate lemma, without bounds, one argument for both axes and both senses: where a window's area is an extreme for the first time
 -- as the window moves along an axis, the window stands at the start, at the end, or one of its edges meets a side of a rectangle.
-use Prim.Native.Nat.{ℕ, zero, suc, _+_, _-_, _*_, _≤_, _<_, max}
+use Prim.Native.Nat.{ℕ, zero, suc, _+_, _*_, _≤_, _<_, max}
 use mathlib.Core.Path.{_≡_, refl, sym, ap, subst₂, _∙_}
 use mathlib.Core.Logic.{_⊎_, inl, inr}
 use mathlib.Core.List.{List, [], _∷_}
-use native.Mathlib.Nat.{le-trans, le-of-lt, mul-le-mul-right, suc-add, mul-comm}
+use native.Mathlib.Nat.{mul-le-mul-right, suc-add, mul-comm}
 use native.Mathlib.Decide.{ℕ-discrete}
 use native.Mathlib.Omega.{arith}
-use lib.Dec.{eqb}
-use borrow.Author.Tests.{eq-eqb, ne-eqb}
 use Rattle.laws.proofs.Tests.{le-or-lt}
 use Rattle.geometry.specs.declared.Rect.{Rect}
 use Rattle.geometry.specs.declared.Sense.{Sense}
 use Rattle.geometry.specs.declared.Sense.the-variants.{Greatest, Least}
-use Rattle.geometry.specs.Count.{one-if, rectSum}
+use Rattle.geometry.specs.Count.{rectSum}
 use Rattle.geometry.specs.Layout.{windowBox, Disjoint}
 use Rattle.geometry.specs.Extreme.{Bounded}
 use Rattle.geometry.specs.Overlaps.{common, overlapSum}

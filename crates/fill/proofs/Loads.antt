@@ -255,10 +255,6 @@ module _ (loads : ℕ → ℕ → ℕ) (plan : Plan) (total : TileBox → ℕ) (
 
 -- ---- 64 bits
 
-pub bound-fits : (bound window : ℕ) → bound ≤ topBound → window ≤ widest →
-    (bound * window ≤ topBound * widest) × (bound * window * window ≤ topBound * widest * widest)
-bound-fits bound window h k = (mul-le-mul h k, mul-le-mul (mul-le-mul h k) k)
-
 pub tiles-few : (across : ℕ) → across ≤ mostAcross → across * across ≤ tilesRoom
 tiles-few across h = mul-le-mul h h
 

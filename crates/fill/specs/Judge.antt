@@ -1,7 +1,7 @@
 -- Document 01, "Fillable area and verdict": tile loads, the sums of tile windows and the verdict. A `Plan`, of src/lib.rt, has the
 -- tiles across the layout and across a window, their side, the window's side and the bounds.
 use Prim.Native.Nat.{ℕ, zero, suc, _+_, _-_, _*_, min}
-use mathlib.Core.Bool.{Bool, true, false}
+use mathlib.Core.Bool.{true, false}
 use mathlib.Core.List.{List, [], _∷_}
 use lib.ListN.{getD}
 use Rattle.geometry.specs.declared.Rect.{Rect}

@@ -12,7 +12,7 @@ use borrow.Author.Tests.{lt-ltb, le-ltb, le-leb, lt-leb}
 use Rattle.laws.proofs.Tests.{le-or-lt}
 use Rattle.geometry.specs.declared.Rect.{Rect}
 use Rattle.geometry.specs.Count.{sum, span, boxSum, one-if, rectSum}
-use Rattle.geometry.specs.Layout.{holds, covered, coveredArea, sharesSquare, Disjoint}
+use Rattle.geometry.specs.Layout.{holds, covered, coveredArea, sharesSquare, windowBox, Disjoint}
 use Rattle.geometry.specs.Overlaps.{common, overlap, overlapSum}
 use Rattle.geometry.proofs.Counting.{box-cong, box-le, box-plus, box-const, box-product}
 
@@ -117,3 +117,10 @@ count-small p b = omega (arith, box-le b (λ x y. one-if (p x y)) (λ x y. 1) (�
 -- so no more are covered
 pub area-small : (rs : List Rect) (b : Rect) → coveredArea rs b ≤ (b .x2 - b .x1) * (b .y2 - b .y1)
 area-small rs b = count-small (covered rs) b
+
+-- and a window has no more than w × w
+pub window-small : (rs : List Rect) (w x y : ℕ) → coveredArea rs (windowBox w x y) ≤ w * w
+window-small rs w x y = omega (arith, area-small rs (windowBox w x y), ap₂ _*_ (side x) (side y))
+  where
+    side : (u : ℕ) → u + w - u ≡ w
+    side u = omega arith

@@ -19,7 +19,7 @@ mostRects = 1024
 abbrev pub rectsRoom : ℕ
 rectsRoom = 4 * mostRects
 
--- L and U, in ten-thousandths
+-- no bound L or U is past 10,000 ten-thousandths
 abbrev pub topBound : ℕ
 topBound = 10000
 

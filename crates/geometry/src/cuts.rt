@@ -2,14 +2,14 @@
 use crate::Cut;
 use crate::Rect;
 use crate::smaller;
-ghost use Prim.Native.Nat.{_-_, _*_, _≤_, _<_, min};
+ghost use Prim.Native.Nat.{_-_, _≤_, _<_, min};
 ghost use mathlib.Core.Path.{_≡_};
-ghost use Rattle.geometry.specs.Cuts.{FullBox, Nearer, before, behind};
+ghost use Rattle.geometry.specs.Cuts.{FullBox, Nearer, before, behind, sizeOf};
 
 // The number of unit squares of a box.
 pub fn box_size(b: Rect) -> u64
     requires { ⌜ FullBox b ⌝ }
-    ensures { λ r. ⌜ r ≡ (b .x2 - b .x1) * (b .y2 - b .y1) ⌝ }
+    ensures { λ r. ⌜ r ≡ sizeOf b ⌝ }
 {
     (b.x2 - b.x1) * (b.y2 - b.y1)
 }
@@ -23,7 +23,8 @@ pub fn smaller_part(low: u64, high: u64, at: u64) -> u64
 }
 
 // Of the line so far and another one that nearer the middle; one that does not cross
-// the side is not taken.
+// the side is not taken. The contract leaves open which it is, since every cut inside
+// a box is right.
 pub fn nearer_middle(low: u64, high: u64, line: u64, at: u64) -> u64
     requires { ⌜ (low ≤ line) × (line < high) ⌝ }
     ensures { λ r. ⌜ Nearer low high line at r ⌝ }

@@ -1,5 +1,5 @@
-// Rectangles, the covered area of a box and the shapes under it, and what a
-// search for an extreme finds.
+// Rectangles, the covered area of a box and the shapes under it, what a search for
+// an extreme finds, and boxes that are cut in two.
 
 ghost use Prim.Native.Nat.{_+_, _-_, _*_, _^_, _≤_, _<_, min, max};
 ghost use mathlib.Core.Path.{_≡_};

@@ -2,7 +2,7 @@
 -- `mathlib.Core.Bool`.
 use Prim.Native.Nat.{ℕ, suc, _≤_, _<_}
 use mathlib.Core.Path.{_≡_, refl, sym, ap₂, _∙_}
-use mathlib.Core.Bool.{Bool, true, false, false≢true, _&&_, _||_}
+use mathlib.Core.Bool.{Bool, true, false, false≢true, not, _&&_, _||_}
 use mathlib.Core.Logic.{_⊎_, inl, inr}
 use native.Mathlib.Decide.{decLe}
 use native.Mathlib.Omega.{arith}
@@ -50,6 +50,23 @@ and-same p q e h k = e ∙ ap₂ _&&_ h k
 -- where the first holds, the second decides
 pub and-second : (p q : Bool) {r : Bool} → p ≡ true → r ≡ q → r ≡ (p && q)
 and-second p q h k = k ∙ ap₂ _&&_ (sym h) refl
+
+-- the first holds, or the second decides
+pub or-first : (p q u : Bool) → u ≡ p → u ≡ true → true ≡ (p || q)
+or-first p q u e h = ap₂ _||_ (sym h ∙ e) refl
+
+pub or-second : (p q u v : Bool) → u ≡ p → u ≡ false → v ≡ q → v ≡ (p || q)
+or-second p q u v e h f = f ∙ ap₂ _||_ (sym h ∙ e) refl
+
+-- ---- a test that does not fail
+
+pub T-unless : (p : Bool) → not p ≡ false → T p
+T-unless true e = tt
+T-unless false e = absurd (false≢true (sym e))
+
+pub unless-T : (p : Bool) → T p → not p ≡ false
+unless-T true h = refl
+unless-T false h = absurd h
 
 -- ---- two tests that hold
 

@@ -1,38 +1,37 @@
 -- All positions: what is counted first, thresholds for the bounds, and that the three counts add up.
-use Prim.Native.Nat.{ℕ, suc, _+_, _-_, _*_, _/_, _≤_, _<_}
+use Prim.Native.Nat.{ℕ, _+_, _-_, _*_, _/_, _≤_, _<_}
 use mathlib.Core.Path.{_≡_, refl, sym, ap, ap₂, _∙_}
 use mathlib.Core.Bool.{Bool, true, false, not, _&&_}
 use mathlib.Core.List.{List}
 use mathlib.Core.Logic.{_⊎_, inl, inr}
-use native.Mathlib.Nat.{zero-add, mul-le-mul, mul-le-mul-right}
+use native.Mathlib.Nat.{zero-add, mul-le-mul-right}
 use native.Mathlib.Numerals.{add-one}
 use native.Mathlib.Omega.{arith}
 use lib.Dec.{leb, ltb}
-use lib.ListN.{length, take, length-take}
+use lib.ListN.{take, length-take}
 use borrow.Author.Tests.{lt-ltb, le-ltb, le-leb, lt-leb}
 use Rattle.laws.proofs.Tests.{le-or-lt}
 use Rattle.geometry.specs.declared.Rect.{Rect}
-use Rattle.geometry.specs.Sizes.{widest, largest, mostRects, topBound}
+use Rattle.geometry.specs.Sizes.{widest}
 use Rattle.geometry.specs.Count.{one-if, boxSum}
 use Rattle.geometry.specs.Layout.{rectsOf, windowBox, Layer}
 use Rattle.geometry.specs.Positions.{windowArea, positions, Position}
 use Rattle.geometry.specs.Bounds.{keepsUpper, keepsLower}
 use Rattle.geometry.specs.Overlaps.{overlapSum}
-use Rattle.geometry.proofs.Counting.{Inside, box-cong, box-plus, box-const, box-zero, box-term}
-use Rattle.geometry.proofs.Overlaps.{overlap-is-area, area-small}
+use Rattle.geometry.proofs.Counting.{box-cong, box-plus, box-const, box-zero, box-term}
+use Rattle.geometry.proofs.Overlaps.{overlap-is-area, window-small}
 use Rattle.positions.specs.declared.Patch.{Patch}
 use Rattle.positions.specs.declared.Tally.{Tally}
-use Rattle.positions.specs.declared.Threshold.{Threshold}
 use Rattle.positions.specs.Tallies.{allPositions, positionsWhere, tallyOf}
-use Rattle.positions.specs.Counting.{belowIn, listedRects, Lists, Countable, MostIn, Tallied}
+use Rattle.positions.specs.Counting.{belowIn, listedRects, Lists, Countable, MostIn}
 
--- ---- what is counted first: all positions, and no rectangle settled
+-- ---- what is counted first: the first p positions on each axis, and no rectangle settled
 
-abbrev pub square : ℕ → Rect
-square p = record { x1 = 0; y1 = 0; x2 = p; y2 = p }
+abbrev pub firstPositions : ℕ → Rect
+firstPositions p = record { x1 = 0; y1 = 0; x2 = p; y2 = p }
 
 abbrev pub unsettled : ℕ → Patch
-unsettled p = record { extent = square p; corners = record { southwest = 0; southeast = 0; northwest = 0; northeast = 0 } }
+unsettled p = record { extent = firstPositions p; corners = record { southwest = 0; southeast = 0; northwest = 0; northeast = 0 } }
 
 pub start-countable : (t out : List ℕ) (n w p : ℕ) → Layer t → 0 < p → p ≤ widest → w ≤ widest → Lists t out n →
     Countable t (take n out) w (unsettled p)
@@ -53,15 +52,12 @@ start-countable t out n w p d h k j l =
           };
     }
 
-pub from-zero : (p : ℕ) → p - 0 ≡ p
-from-zero p = omega arith
+pub whole-side : (p : ℕ) → p - 0 ≡ p
+whole-side p = omega arith
 
 -- no window has more than its own squares
 pub window-most : (t : List ℕ) (w : ℕ) (b : Rect) → MostIn t w b (w * w)
-window-most t w b x y i = omega (arith, area-small (rectsOf t) (windowBox w x y), ap₂ _*_ (side x) (side y))
-  where
-    side : (u : ℕ) → u + w - u ≡ w
-    side u = omega arith
+window-most t w b x y i = window-small (rectsOf t) w x y
 
 -- ---- thresholds
 
@@ -99,7 +95,7 @@ module _ (rs : List Rect) (n w : ℕ) where
   where-all = box-const (allPositions n w) 1 ∙ size (positions n w)
     where
       size : (p : ℕ) → (p - 0) * ((p - 0) * 1) ≡ p * p
-      size p = ap (λ (q : ℕ). q * (q * 1)) (from-zero p) ∙ omega arith
+      size p = ap (λ (q : ℕ). q * (q * 1)) (whole-side p) ∙ omega arith
 
   -- a count is 0 exactly if no position passes
   pub none-passes : (f : ℕ → Bool) → positionsWhere f rs n w ≡ 0 → (x y : ℕ) → Position n w x y → f (windowArea rs w x y) ≡ false
@@ -159,15 +155,15 @@ module _ (rs : List Rect) (n w lower upper : ℕ) (order : lower ≤ upper) wher
   -- ---- by two counts
 
   module _ (t : List ℕ) (e : rs ≡ rectsOf t) (p : ℕ) (q : p ≡ n - w + 1) where
-    counted : (f : ℕ → Bool) (k area : ℕ) → k ≡ belowIn t (record { window = w; area = area }) (square p) → ((a : ℕ) → ltb a area ≡ f a) →
+    counted : (f : ℕ → Bool) (k area : ℕ) → k ≡ belowIn t (record { window = w; area = area }) (firstPositions p) → ((a : ℕ) → ltb a area ≡ f a) →
         k ≡ positionsWhere f rs n w
     counted f k area d h =
         d
-        ∙ ap₂ (λ (m : ℕ) (l : List Rect). boxSum (square m) (λ x y. one-if (ltb (windowArea l w x y) area))) (q ∙ add-one (n - w)) (sym e)
+        ∙ ap₂ (λ (m : ℕ) (l : List Rect). boxSum (firstPositions m) (λ x y. one-if (ltb (windowArea l w x y) area))) (q ∙ add-one (n - w)) (sym e)
         ∙ where-cong rs n w (λ a. ltb a area) f h
 
-    module _ (k m : ℕ) (c : k ≡ belowIn t (record { window = w; area = (lower * w * w + 9999) / 10000 }) (square p))
-        (d : m ≡ belowIn t (record { window = w; area = upper * w * w / 10000 + 1 }) (square p)) where
+    module _ (k m : ℕ) (c : k ≡ belowIn t (record { window = w; area = (lower * w * w + 9999) / 10000 }) (firstPositions p))
+        (d : m ≡ belowIn t (record { window = w; area = upper * w * w / 10000 + 1 }) (firstPositions p)) where
       under-is : k ≡ tally .under
       under-is = counted (λ a. not (keepsLower lower w a)) k ((lower * w * w + 9999) / 10000) c (λ a. fails-below a (lower * w * w))
 
@@ -191,8 +187,3 @@ module _ (rs : List Rect) (n w lower upper : ℕ) (order : lower ≤ upper) wher
 
           rest : p * p - m ≡ tally .over
           rest = omega (arith, kept-count, all-are, squared)
-
--- ---- 64 bits
-
-pub bound-fits : (bound w : ℕ) → bound ≤ topBound → w ≤ widest → (bound * w ≤ topBound * widest) × (bound * w * w ≤ topBound * widest * widest)
-bound-fits bound w h k = (mul-le-mul h k, mul-le-mul (mul-le-mul h k) k)

@@ -2,7 +2,6 @@ pub mod StraightLines
 pub mod LineCounts
 pub mod FlatBoxes
 pub mod Overlapping
-pub mod Testing
 pub mod Seams
 pub mod Crossing
 pub mod Listing

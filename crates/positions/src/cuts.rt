@@ -9,6 +9,7 @@ use geometry::Rect;
 use geometry::less;
 use geometry::nearer_middle;
 ghost use Prim.Native.Nat.{_≤_, _<_};
+ghost use lib.ListN.{length};
 ghost use Rattle.geometry.specs.Layout.{Layer};
 ghost use Rattle.geometry.specs.Cuts.{FullBox, InBox, Cuts};
 ghost use Rattle.positions.specs.Counting.{Listed, Bending, Crossed, NearestBend, Offered, LinesFor};
@@ -17,7 +18,7 @@ ghost use Rattle.positions.specs.Counting.{Listed, Bending, Crossed, Nea
 // span from c to d, that nearest the middle.
 fn nearest_bend(w: u64, c: u64, d: u64, low: u64, high: u64, line: u64) -> u64
     requires { ⌜ (low ≤ line) × (line < high) ⌝ }
-    ensures { λ r. ⌜ NearestBend w c d low high line r ⌝ }
+    ensures { λ r. ⌜ NearestBend w c d low high r ⌝ }
 {
     let at_low = nearer_middle(low, high, line, c);
     let at_high = nearer_middle(low, high, at_low, d);
@@ -28,7 +29,7 @@ fn nearest_bend(w: u64, c: u64, d: u64, low: u64, high: u64, line: u64) -> u64
 // The better of the lines so far and those by a rectangle.
 fn offer(w: u64, b: Rect, r: Rect, l: Lines) -> Lines
     requires { ⌜ InBox b l ⌝ }
-    ensures { λ m. ⌜ Offered w b r l m ⌝ }
+    ensures { λ m. ⌜ Offered w b r m ⌝ }
 {
     Lines {
         column: nearest_bend(w, r.x1, r.x2, b.x1, b.x2, l.column),
@@ -42,7 +43,7 @@ pub(crate) fn lines_for(rects: &[u64], places: &[u16], w: u64, b: Rect) -> Lines
     requires { ⌜ Layer (now rects) ⌝ }
     requires { ⌜ Listed (now rects) (now places) ⌝ }
     requires { ⌜ Bending (now rects) (now places) w b ⌝ }
-    ensures { λ l. ⌜ LinesFor (now (places .entry)) b l ⌝ }
+    ensures { λ l. ⌜ LinesFor (length (now (places .entry))) b l ⌝ }
 {
     let mut lines = Lines {
         column: b.x1,
@@ -70,7 +71,7 @@ pub(crate) fn choose(axis: Axis, b: Rect, l: Lines) -> Cut
             }
             Cut::Row(l.row)
         }
-        Axis::Up => {
+        Axis::Down => {
             if b.y1 < l.row {
                 return Cut::Row(l.row);
             }

@@ -62,7 +62,7 @@ struct Halves {
     behind: Patch,
 }
 
-// The positions of a box, where they are known without a cut.
+// The positions of a box below the threshold, where they are known without a cut.
 enum Known {
     Open,
     Counted(u64),
@@ -77,12 +77,12 @@ enum Outcome {
 // The axis along which a box is cut where it can be.
 enum Axis {
     Across,
-    Up,
+    Down,
 }
 
 // How many window positions lie under the lower bound, within, and over the upper one,
-// by two counts: of the areas below the least that keeps the lower bound, and of those
-// up to the greatest that keeps the upper one.
+// by two counts: of the positions below the least area that keeps the lower bound, and
+// of those up to the greatest that keeps the upper one.
 pub fn count_positions(rects: &[u64], n: u64, w: u64, lower: u64, upper: u64) -> Tally
     requires { ⌜ Tallied (now rects) n w lower upper ⌝ }
     ensures { λ r. ⌜ r ≡ tallyOf (rectsOf (now (rects .entry))) n w lower upper ⌝ }

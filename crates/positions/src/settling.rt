@@ -14,7 +14,8 @@ ghost use Rattle.geometry.specs.Sizes.{mostRects};
 ghost use Rattle.positions.specs.Counting.{Countable, Left};
 
 // Lists the places of the rectangles that are left for a box, and adds those that are
-// settled to its corners.
+// settled to its corners. The contract leaves open which are left: with the corners
+// they make the whole area of every window.
 pub(crate) fn settle(rects: &[u64], places: &[u16], w: u64, p: Patch, own: &mut [u16]) -> Rest
     requires { ⌜ Countable (now rects) (now places) w p ⌝ }
     requires { ⌜ length (now own) ≡ mostRects ⌝ }

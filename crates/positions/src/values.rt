@@ -8,7 +8,7 @@ use geometry::larger;
 use geometry::overlap_of;
 use geometry::smaller;
 use geometry::window_box;
-ghost use Prim.Native.Nat.{_+_, _≤_, _<_, min, max};
+ghost use Prim.Native.Nat.{_≤_, _<_};
 ghost use mathlib.Core.Path.{_≡_};
 ghost use Rattle.geometry.specs.declared.Cut.the-variants.{Column, Row};
 ghost use Rattle.geometry.specs.Sizes.{widest, largest, SmallRect};

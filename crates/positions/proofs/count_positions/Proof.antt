@@ -7,8 +7,9 @@ use borrow.Author.Needs.{needs}
 use Rattle.geometry.specs.Sizes.{widest, topBound}
 use Rattle.geometry.specs.Layout.{Layer}
 use Rattle.positions.specs.Counting.{Tallied}
+use Rattle.geometry.proofs.Bounding.{bound-fits}
 use Rattle.geometry.proofs.Totals.{small-product}
-use Rattle.positions.proofs.Adding.{bound-fits, under-less, kept-less, tally-is}
+use Rattle.positions.proofs.Adding.{under-less, kept-less, tally-is}
 use Rattle.positions.proofs.count_positions.Statement.{statement}
 use Rattle.positions.proofs.count_positions.Tie as tie
 

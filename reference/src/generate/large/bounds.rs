@@ -77,7 +77,7 @@ pub(super) fn bounds_among_different_sides(cut: u64) -> Job {
 }
 
 /// Bounds that about a third of the positions are under, and a third over.
-fn with_bounds_among_areas(job: Job) -> Job {
+pub(super) fn with_bounds_among_areas(job: Job) -> Job {
     let mut random = Random::new(10);
     let cover = fast::metal_cover(&job);
     let mut place = || random.below(job.last_position() + 1);

@@ -30,7 +30,7 @@ loop-again : tie.Need-loop-again Inv-loop μ-loop
 loop-again c =
     let r = c .before .before in
     let l = r .before in
-    settling-missed _ _ _ _ _ _ _ _ (l .before .loop .inv) (l .loop-test .taken) _ (r .listed-rect .ensures) _ 0 _ (l .before .before .before .reached-box .ensures)
+    settling-missed _ _ _ _ _ _ _ _ (l .before .loop .inv) (l .loop-test .taken) _ (r .listed-rect .ensures) _ _ (l .before .before .before .reached-box .ensures)
     (c .before .overlap-of .ensures) (c .if1 .taken)
 
 may-bend-requires : tie.Need-may-bend-requires Inv-loop μ-loop

@@ -1,5 +1,4 @@
 -- `positions::values::row_seam` meets its contract: by what each of the two values is. Assumes nothing.
-use native.Mathlib.Omega.{arith}
 use borrow.Author.Needs.{needs}
 use Rattle.positions.proofs.Seams.{seam-is}
 use Rattle.positions.proofs.values.row_seam.Statement.{statement}
