@@ -323,7 +323,7 @@ promises-kept st k =
       quick = quick;
       counts = counts;
       density = density-kept st k;
-      positions = positions-kept st (k .bounds-order);
+      positions = positions-kept st (k .bounds-order) (fill-kept st k);
       fill = fill-kept st k;
     }
   where

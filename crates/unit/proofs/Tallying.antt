@@ -1,63 +1,72 @@
--- Demand 3 of the positions under, within and over the bounds.
-use Prim.Native.Nat.{ℕ, _≤_}
-use mathlib.Core.Path.{_≡_, refl, sym, ap, _∙_, subst}
-use mathlib.Core.Bool.{Bool, true, false, not}
-use mathlib.Core.List.{List}
+-- Demand 3 of the positions under, within and over the bounds, beside the exact run and the verdict on the fill.
+use Prim.Native.Nat.{ℕ, _+_, _≤_, _<_}
+use mathlib.Core.Path.{_≡_, refl, subst⁻¹}
+use mathlib.Core.Bool.{Bool, not}
+use mathlib.Core.List.{List, [], _∷_}
+use mathlib.Core.Logic.{_⊎_, inl, inr}
+use native.Mathlib.Omega.{arith}
 use lib.Dec.{T}
+use Rattle.laws.proofs.Tests.{le-or-lt, T-unless, unless-T}
 use Rattle.geometry.specs.declared.Rect.{Rect}
 use Rattle.geometry.specs.declared.Spot.{Spot}
 use Rattle.geometry.specs.declared.Sense.the-variants.{Greatest, Least}
-use Rattle.geometry.specs.Positions.{windowArea, Position}
-use Rattle.geometry.specs.Bounds.{keepsUpper, keepsLower}
+use Rattle.geometry.specs.Layout.{windowBox}
 use Rattle.geometry.proofs.Bounding.{keeps-less, keeps-more}
 use Rattle.extremes.specs.Exact.{extreme}
 use Rattle.extremes.proofs.Promises.{OverAll, extreme-over-all}
 use Rattle.fill.specs.declared.Bound.{Bound}
 use Rattle.fill.specs.declared.Bound.the-variants.{Over, Under}
-use Rattle.positions.specs.Tallies.{positionsWhere, tallyOf}
+use Rattle.fill.specs.Judge.{boundNumber, verdictNumbers}
+use Rattle.fill.specs.Placement.{chosenArea}
 use Rattle.positions.proofs.Adding.{none-passes, passes-none, tally-adds-up}
 use Rattle.forms.specs.Shapes.{rectangles}
 use Rattle.jobfile.specs.Faults.{Standing}
-use Rattle.unit.specs.Promise.{areaAt, PositionOf, keepsAlone, PositionsPromise}
+use Rattle.unit.specs.Answering.{answerFor, answerOf}
+use Rattle.unit.specs.Promise.{areaAt, PositionOf, keepsAlone, positionCount, FailingPromise, PositionsPromise, FillPromise}
 
--- a test that does not fail holds, and the other way round
-holds-unless : (t : Bool) → not t ≡ false → T t
-holds-unless true e = tt
-holds-unless false e = subst T e tt
+-- ---- one bound
 
-fails-not : (t : Bool) → T t → not t ≡ false
-fails-not true h = refl
-fails-not false h = absurd h
+module _ (st : Standing) (b : Bound) where
+  abbrev failing : ℕ
+  failing = positionCount st (λ area. not (keepsAlone st b area))
 
--- no position fails a test exactly if one of them keeps it that decides for all
-module _ (rs : List Rect) (n w : ℕ) (keeps : ℕ → Bool) (p : Spot) (position : Position n w (p .x) (p .y)) (area : p .area ≡ windowArea rs w (p .x) (p .y)) where
-  none-fails : positionsWhere (λ a. not (keeps a)) rs n w ≡ 0 → T (keeps (p .area))
-  none-fails e =
-      holds-unless (keeps (p .area)) (ap (λ (a : ℕ). not (keeps a)) area ∙ none-passes rs n w (λ a. not (keeps a)) e (p .x) (p .y) position)
+  none-fails : failing ≡ 0 → (x y : ℕ) → PositionOf st x y → T (keepsAlone st b (areaAt st x y))
+  none-fails e x y q =
+      T-unless (keepsAlone st b (areaAt st x y))
+      (none-passes (rectangles (st .shapes)) (st .head .size) (st .head .window) (λ area. not (keepsAlone st b area)) e x y q)
 
-  all-keep : ((x y : ℕ) → Position n w x y → T (keeps (p .area)) → T (keeps (windowArea rs w x y))) → T (keeps (p .area)) →
-      positionsWhere (λ a. not (keeps a)) rs n w ≡ 0
-  all-keep h k = passes-none rs n w (λ a. not (keeps a)) (λ x y q. fails-not (keeps (windowArea rs w x y)) (h x y q k))
+  fails-none : ((x y : ℕ) → PositionOf st x y → T (keepsAlone st b (areaAt st x y))) → failing ≡ 0
+  fails-none h =
+      passes-none (rectangles (st .shapes)) (st .head .size) (st .head .window) (λ area. not (keepsAlone st b area))
+      (λ x y q. unless-T (keepsAlone st b (areaAt st x y)) (h x y q))
 
-pub positions-kept : (st : Standing) → st .head .lower ≤ st .head .upper →
-    PositionsPromise st (tallyOf (rectangles (st .shapes)) (st .head .size) (st .head .window) (st .head .lower) (st .head .upper))
-    (extreme Least (rectangles (st .shapes)) (st .head .size) (st .head .window) .area)
-    (extreme Greatest (rectangles (st .shapes)) (st .head .size) (st .head .window) .area)
-positions-kept st order =
+  -- the window p decides for all
+  failing-kept : (p : Spot) → PositionOf st (p .x) (p .y) → p .area ≡ areaAt st (p .x) (p .y) →
+      ((x y : ℕ) → PositionOf st x y → T (keepsAlone st b (p .area)) → T (keepsAlone st b (areaAt st x y))) → FailingPromise st b failing (p .area)
+  failing-kept p at is h =
+      record {
+        counts = refl;
+        none = λ e. subst⁻¹ (λ (a : ℕ). T (keepsAlone st b a)) is (none-fails e (p .x) (p .y) at);
+        extreme-keeps = λ k. fails-none (λ x y q. h x y q k);
+        all-keep = none-fails;
+      }
+
+-- ---- both, beside the fill
+
+pub positions-kept : (st : Standing) → st .head .lower ≤ st .head .upper → FillPromise st (answerOf st .verdict) → PositionsPromise st (answerOf st)
+unfolding answerFor
+positions-kept st order fill =
     record {
-      under = refl;
+      under =
+          failing-kept st Under (extreme Least rs n w) (least .position) (least .area-is)
+          (λ x y q k. keeps-more (st .head .lower) w (extreme Least rs n w .area) (areaAt st x y) (least .none-better x y q) k);
+      over =
+          failing-kept st Over (extreme Greatest rs n w) (greatest .position) (greatest .area-is)
+          (λ x y q k. keeps-less (st .head .upper) w (areaAt st x y) (extreme Greatest rs n w .area) (greatest .none-better x y q) k);
       within = refl;
-      over = refl;
-      all = tally-adds-up rs n w lower upper order;
-      none-under = none-fails rs n w (keepsLower lower w) (extreme Least rs n w) (least .position) (least .area-is);
-      least-keeps =
-          all-keep rs n w (keepsLower lower w) (extreme Least rs n w) (least .position) (least .area-is)
-          (λ x y q k. keeps-more lower w (extreme Least rs n w .area) (windowArea rs w x y) (least .none-better x y q) k);
-      none-over = none-fails rs n w (keepsUpper upper w) (extreme Greatest rs n w) (greatest .position) (greatest .area-is);
-      greatest-keeps =
-          all-keep rs n w (keepsUpper upper w) (extreme Greatest rs n w) (greatest .position) (greatest .area-is)
-          (λ x y q k. keeps-less upper w (windowArea rs w x y) (extreme Greatest rs n w .area) (greatest .none-better x y q) k);
-      clean = clean;
+      all = tally-adds-up rs n w (st .head .lower) (st .head .upper) order;
+      safe = λ e. fails-none st Over (λ x y q. keeps-less (st .head .upper) w (areaAt st x y) (areaAt st x y + filled x y) (omega arith) (fill .safe e chosen (fill .placeable .1) Over x y q));
+      broken-under = λ i j e. some-under i j e (le-or-lt (failing st Under) 0);
     }
   where
     rs : List Rect
@@ -69,19 +78,22 @@ positions-kept st order =
     w : ℕ
     w = st .head .window
 
-    lower : ℕ
-    lower = st .head .lower
-
-    upper : ℕ
-    upper = st .head .upper
-
     least : OverAll Least rs n w (extreme Least rs n w)
     least = extreme-over-all Least rs n w
 
     greatest : OverAll Greatest rs n w (extreme Greatest rs n w)
     greatest = extreme-over-all Greatest rs n w
 
-    clean : positionsWhere (λ a. not (keepsLower lower w a)) rs n w ≡ 0 → positionsWhere (λ a. not (keepsUpper upper w a)) rs n w ≡ 0 →
-        (b : Bound) (x y : ℕ) → PositionOf st x y → T (keepsAlone st b (areaAt st x y))
-    clean e f Over x y q = holds-unless (keepsUpper upper w (windowArea rs w x y)) (none-passes rs n w (λ a. not (keepsUpper upper w a)) f x y q)
-    clean e f Under x y q = holds-unless (keepsLower lower w (windowArea rs w x y)) (none-passes rs n w (λ a. not (keepsLower lower w a)) e x y q)
+    -- some placement, and what it adds to a window
+    chosen : ℕ → ℕ → Bool
+    chosen = fill .placeable .0
+
+    filled : (x y : ℕ) → ℕ
+    filled x y = chosenArea chosen (windowBox w x y)
+
+    some-under : (i j : ℕ) → verdictNumbers (answerOf st .verdict) ≡ 1 ∷ boundNumber Under ∷ i ∷ j ∷ [] → (failing st Under ≤ 0) ⊎ (0 < failing st Under) →
+        0 < failing st Under
+    some-under i j e (inr h) = h
+    some-under i j e (inl h) =
+        absurd (fill .broken Under i j e chosen (fill .placeable .1)
+        (keeps-more (st .head .lower) w _ _ (omega arith) (none-fails st Under (omega (arith, h)) _ _ (fill .broken-there Under i j e))))

@@ -162,24 +162,30 @@ abbrev pub keepsAlone : Standing → Bound → (area : ℕ) → Bool
 keepsAlone st b area = keeps b (planOf (st .head)) area
 
 -- the number of the job's positions whose area of shapes alone passes a test
-abbrev pub countOf : Standing → (passes : ℕ → Bool) → ℕ
-countOf st passes = positionsWhere passes (rectangles (st .shapes)) (st .head .size) (st .head .window)
+abbrev pub positionCount : Standing → (passes : ℕ → Bool) → ℕ
+positionCount st passes = positionsWhere passes (rectangles (st .shapes)) (st .head .size) (st .head .window)
 
--- the positions under, within and over the bounds, beside the exact run's minimum and maximum
-pub record PositionsPromise (st : Standing) (t : Tally) (least greatest : ℕ) : Type 0 where
-  -- each count is that of the positions that fail L, keep both bounds, or fail U, by the shapes alone
-  pub under : t .under ≡ countOf st (λ area. not (keepsAlone st Under area))
-  pub within : t .within ≡ countOf st (λ area. keepsAlone st Under area && keepsAlone st Over area)
-  pub over : t .over ≡ countOf st (λ area. not (keepsAlone st Over area))
+-- the count of positions that fail a bound, beside the extreme of the exact run that decides on it: the minimum for L, the maximum for U
+pub record FailingPromise (st : Standing) (b : Bound) (count extreme : ℕ) : Type 0 where
+  -- it is the number of positions whose area of shapes alone does not keep the bound
+  pub counts : count ≡ positionCount st (λ area. not (keepsAlone st b area))
+  -- it is 0 exactly if the extreme keeps the bound, and then every position does
+  pub none : count ≡ 0 → T (keepsAlone st b extreme)
+  pub extreme-keeps : T (keepsAlone st b extreme) → count ≡ 0
+  pub all-keep : count ≡ 0 → (x y : ℕ) → PositionOf st x y → T (keepsAlone st b (areaAt st x y))
+
+-- the positions under, within and over the bounds
+pub record PositionsPromise (st : Standing) (a : Answer) : Type 0 where
+  pub under : FailingPromise st Under (a .positions .under) (a .exact .least .area)
+  pub over : FailingPromise st Over (a .positions .over) (a .exact .greatest .area)
+  -- within are those that keep both bounds
+  pub within : a .positions .within ≡ positionCount st (λ area. keepsAlone st Under area && keepsAlone st Over area)
   -- together they are all positions, (N − W + 1) × (N − W + 1)
-  pub all : t .under + t .within + t .over ≡ positions (st .head .size) (st .head .window) * positions (st .head .size) (st .head .window)
-  -- none is under exactly if the minimum keeps L, and none over exactly if the maximum keeps U
-  pub none-under : t .under ≡ 0 → T (keepsAlone st Under least)
-  pub least-keeps : T (keepsAlone st Under least) → t .under ≡ 0
-  pub none-over : t .over ≡ 0 → T (keepsAlone st Over greatest)
-  pub greatest-keeps : T (keepsAlone st Over greatest) → t .over ≡ 0
-  -- where none is under and none over, every position keeps both bounds, by the shapes alone
-  pub clean : t .under ≡ 0 → t .over ≡ 0 → (b : Bound) (x y : ℕ) → PositionOf st x y → T (keepsAlone st b (areaAt st x y))
+  pub all : a .positions .under + a .positions .within + a .positions .over
+      ≡ positions (st .head .size) (st .head .window) * positions (st .head .size) (st .head .window)
+  -- fill only adds to a window: after "safe" no position is over, though some may be under, and after "broken under" some is
+  pub safe : verdictNumbers (a .verdict) ≡ 0 ∷ [] → a .positions .over ≡ 0
+  pub broken-under : (i j : ℕ) → verdictNumbers (a .verdict) ≡ 1 ∷ boundNumber Under ∷ i ∷ j ∷ [] → 0 < a .positions .under
 
 -- a shape is one of a list
 pub data Among (s : Shape) : List Shape → Type 0 where
@@ -214,5 +220,5 @@ pub record Promises (st : Standing) (a : Answer) : Type 0 where
   pub quick : (s : Sense) → QuickPromise s st (quickIn s a) (extremeIn s (a .exact) .area)
   pub counts : CountsPromise st a
   pub density : DensityPromise st (a .greatest) (a .exact .greatest .area) (a .density)
-  pub positions : PositionsPromise st (a .positions) (a .exact .least .area) (a .exact .greatest .area)
+  pub positions : PositionsPromise st a
   pub fill : FillPromise st (a .verdict)
