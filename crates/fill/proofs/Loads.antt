@@ -29,7 +29,6 @@ use Rattle.fill.specs.declared.Verdict.the-variants.{Broken}
 use Rattle.spacing.specs.Eligible.{tile, fillableArea}
 use Rattle.fill.specs.Judge.{TileBox, numberAt, load, standardTiles, bloatedTiles, shrunkTiles, failingAt, startsAcross, standardFailing, marginFailing, judged}
 use Rattle.fill.specs.Windows.{ruleOf, loadOf, loadAlong, tilesForUpper, tilesForLower, failingBy, searchBy, tilesBefore, Loads, TilesInLayout, IsStart, Filled}
-use Rattle.geometry.specs.Sizes.{topBound}
 use Rattle.fill.specs.Sizes.{mostAcross, tilesRoom, Tiled, RowTiled}
 use Rattle.spacing.proofs.Outside.{fillable-small}
 use Rattle.fill.proofs.Starts.{rows-cong}

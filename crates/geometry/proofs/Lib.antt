@@ -7,3 +7,4 @@ pub mod Sharing
 pub mod Bounding
 pub mod Cutting
 pub mod Bends
+pub mod Listing

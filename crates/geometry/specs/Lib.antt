@@ -6,3 +6,4 @@ pub mod Bounds
 pub mod Extreme
 pub mod Overlaps
 pub mod Cuts
+pub mod Places

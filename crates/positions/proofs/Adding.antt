@@ -144,7 +144,7 @@ module _ (rs : List Rect) (n w lower upper : ℕ) (order : lower ≤ upper) wher
       split a (inl h) = rw (le-leb (lower * w * w) (10000 * a) h) (sym (zero-add (one-if (keepsUpper upper w a))))
       split a (inr h) = rw (lt-leb (lower * w * w) (10000 * a) h, le-leb (10000 * a) (upper * w * w) (omega (arith, bounds-order)))
 
-  pub all-are : positions n w * positions n w ≡ tally .over + kept
+  all-are : positions n w * positions n w ≡ tally .over + kept
   all-are =
       sym (where-all rs n w)
       ∙ where-plus rs n w (λ a. true) (λ a. not (keepsUpper upper w a)) (keepsUpper upper w) (λ a. one-of-two (keepsUpper upper w a))

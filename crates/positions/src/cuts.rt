@@ -12,7 +12,8 @@ ghost use Prim.Native.Nat.{_≤_, _<_};
 ghost use lib.ListN.{length};
 ghost use Rattle.geometry.specs.Layout.{Layer};
 ghost use Rattle.geometry.specs.Cuts.{FullBox, InBox, Cuts};
-ghost use Rattle.positions.specs.Counting.{Listed, Bending, Crossed, NearestBend, Offered, LinesFor};
+ghost use Rattle.geometry.specs.Places.{Listed};
+ghost use Rattle.positions.specs.Counting.{Bending, Crossed, NearestBend, Offered, LinesFor};
 
 // Of the line so far and the positions where an edge of the window meets an end of the
 // span from c to d, that nearest the middle.
@@ -41,7 +42,7 @@ fn offer(w: u64, b: Rect, r: Rect, l: Lines) -> Lines
 pub(crate) fn lines_for(rects: &[u64], places: &[u16], w: u64, b: Rect) -> Lines
     requires { ⌜ FullBox b ⌝ }
     requires { ⌜ Layer (now rects) ⌝ }
-    requires { ⌜ Listed (now rects) (now places) ⌝ }
+    requires { ⌜ Listed 3 (now rects) (now places) ⌝ }
     requires { ⌜ Bending (now rects) (now places) w b ⌝ }
     ensures { λ l. ⌜ LinesFor (length (now (places .entry))) b l ⌝ }
 {

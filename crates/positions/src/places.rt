@@ -10,7 +10,8 @@ ghost use lib.ListN.{length, getD};
 ghost use Rattle.geometry.specs.Sizes.{mostRects, rectsRoom};
 ghost use Rattle.geometry.specs.Layout.{Layer};
 ghost use Rattle.geometry.specs.Overlaps.{rectAt, overlapSum};
-ghost use Rattle.positions.specs.Counting.{Listed, Lists, listedRects};
+ghost use Rattle.geometry.specs.Places.{Listed};
+ghost use Rattle.positions.specs.Counting.{Lists, listedRects};
 
 // How many rectangles may be left for a box.
 pub(crate) const PLACES_ROOM: usize = MOST_RECTS;
@@ -35,7 +36,7 @@ pub(crate) fn list_rects(rects: &[u64], out: &mut [u16]) -> usize
 // The rectangle at a place of a list.
 pub(crate) fn listed_rect(rects: &[u64], places: &[u16], i: usize) -> Rect
     requires { ⌜ Layer (now rects) ⌝ }
-    requires { ⌜ Listed (now rects) (now places) ⌝ }
+    requires { ⌜ Listed 3 (now rects) (now places) ⌝ }
     requires { ⌜ i < length (now places) ⌝ }
     ensures { λ r. ⌜ r ≡ rectAt (now (rects .entry)) (getD (now (places .entry)) i 0) ⌝ }
 {
@@ -45,7 +46,7 @@ pub(crate) fn listed_rect(rects: &[u64], places: &[u16], i: usize) -> Rect
 // The unit squares that the rectangles of a list share with a box, added up.
 pub(crate) fn overlaps_among(rects: &[u64], places: &[u16], b: Rect) -> u64
     requires { ⌜ Layer (now rects) ⌝ }
-    requires { ⌜ Listed (now rects) (now places) ⌝ }
+    requires { ⌜ Listed 3 (now rects) (now places) ⌝ }
     requires { ⌜ length (now places) ≤ mostRects ⌝ }
     ensures { λ r. ⌜ r ≡ overlapSum (listedRects (now (rects .entry)) (now (places .entry))) b ⌝ }
 {

@@ -7,17 +7,19 @@ use mathlib.Core.Logic.{_⊎_, inl, inr}
 use native.Mathlib.Numerals.{add-one}
 use native.Mathlib.Omega.{arith}
 use lib.ListN.{length, take, drop, getD, set, length-set, drop-of-length-le}
-use lib.Seq.{take-suc-set, length-take-le, drop-cons, append-snoc}
+use lib.Seq.{length-take-le, drop-cons, append-snoc}
 use lib.Dec.{eqb}
 use borrow.Author.Tests.{eq-eqb, not-true}
 use Rattle.laws.proofs.Tests.{below-or-last, both, true-false}
 use Rattle.geometry.specs.declared.Rect.{Rect}
 use Rattle.geometry.specs.Count.{one-if}
 use Rattle.geometry.proofs.Counting.{box-cong}
+use Rattle.geometry.proofs.Listing.{listed-more, kept-more}
 use Rattle.spacing.specs.declared.Region.{Region}
 use Rattle.spacing.specs.declared.Part.{Part}
 use Rattle.spacing.specs.Free.{regionAt, holdsSquare, placesFrom, placesOf, placesIn, heldBy, freeBy, freeIn, AgreeOn, Serves}
-use Rattle.spacing.specs.Counting.{isNear, coversBox, isIdle, isSpare, Listed, Lists, Countable, Divisible, Enough}
+use Rattle.geometry.specs.Places.{Listed}
+use Rattle.spacing.specs.Counting.{isNear, coversBox, isIdle, isSpare, Lists, Countable, Divisible, Enough}
 use Rattle.geometry.specs.Cuts.{FullBox}
 use Rattle.spacing.specs.Sizes.{regionNumbers, SmallTable, liveRoom}
 use Rattle.spacing.proofs.SmallRegions.{region-small}
@@ -42,7 +44,7 @@ module _ (i e : ℕ) where
       none = omega arith
 
 -- all are places of regions, where the part lies in the table
-places-listed : (t : List ℕ) (at n : ℕ) → at + regionNumbers * n ≤ length t → Listed t (placesFrom at n)
+places-listed : (t : List ℕ) (at n : ℕ) → at + regionNumbers * n ≤ length t → Listed 4 t (placesFrom at n)
 unfolding placesFrom
 places-listed t at zero h i k = absurd (omega arith)
 places-listed t at (suc n) h zero k = omega arith
@@ -104,7 +106,7 @@ module _ (p : Part) (out : List ℕ) (n at : ℕ) (z : ListedSoFar p out n at) (
         room = length-set out n v ∙ z .room;
         listed =
             ap (λ (l : List ℕ). l ++ placesOf (record { from = at + regionNumbers; to = p .to }))
-            (ap (λ (k : ℕ). take k (set out n v)) (add-one n) ∙ take-suc-set out n v (place-fits h) ∙ ap (λ (k : ℕ). take n out ++ (k ∷ [])) e)
+            (kept-more out n v (place-fits h) ∙ ap (λ (k : ℕ). take n out ++ (k ∷ [])) e)
             ∙ append-snoc (take n out) at (placesOf (record { from = at + regionNumbers; to = p .to }))
             ∙ ap (λ (l : List ℕ). take n out ++ l) (sym (places-next at (p .to) h))
             ∙ z .listed;
@@ -126,7 +128,7 @@ module _ (t : List ℕ) (b : Rect) (p : Part) (out : List ℕ) (n : ℕ) (small 
   lists-countable box =
       record {
         small = small;
-        listed = subst (Listed t) (sym (l .places)) (places-listed t (p .from) ((p .to - p .from) / regionNumbers) (omega (arith, s .order, s .within)));
+        listed = subst (Listed 4 t) (sym (l .places)) (places-listed t (p .from) ((p .to - p .from) / regionNumbers) (omega (arith, s .order, s .within)));
         few = omega (arith, ap length (l .places), places-count (p .from) ((p .to - p .from) / regionNumbers), s .within, small .few);
         box = box;
       }
@@ -135,12 +137,6 @@ module _ (t : List ℕ) (b : Rect) (p : Part) (out : List ℕ) (n : ℕ) (small 
   lists-free f e = e ∙ ap (λ (ps : List ℕ). freeBy t ps b) (l .places) ∙ agree-free t (placesOf p) (placesIn t) b (s .same)
 
 -- ---- the places that are kept for a box
-
-listed-more : (t ps : List ℕ) (p : ℕ) → Listed t ps → p + 4 < length t → Listed t (ps ++ (p ∷ []))
-listed-more t [] p l h zero k = h
-listed-more t [] p l h (suc i) k = absurd (omega arith)
-listed-more t (a ∷ ps) p l h zero k = l zero (omega arith)
-listed-more t (a ∷ ps) p l h (suc i) k = listed-more t ps p (λ j q. l (suc j) (omega arith)) h i (omega arith)
 
 -- a region of a list holds what it holds for the list
 held-at : (t ps : List ℕ) (i x y : ℕ) → i < length ps → holdsSquare (regionAt t (getD ps i 0)) x y ≡ true → heldBy t ps x y ≡ true
@@ -165,7 +161,7 @@ pub record KeptSoFar (t ps own : List ℕ) (lead : ℕ) (b : Rect) (n i : ℕ) :
   pub within : i ≤ length ps
   pub few : n ≤ i
   pub room : length own ≡ liveRoom
-  pub listed : Listed t (take n own)
+  pub listed : Listed 4 t (take n own)
   pub same : AgreeOn b (λ x y. heldBy t (take n own) x y || heldBy t (drop i ps) x y || holdsSquare (regionAt t (getD ps lead 0)) x y) (heldBy t ps)
   pub led : lead < i → (x y : ℕ) → b .x1 ≤ x → x < b .x2 → b .y1 ≤ y → y < b .y2 → holdsSquare (regionAt t (getD ps lead 0)) x y ≡ true →
       heldBy t (take n own) x y ≡ true
@@ -268,7 +264,7 @@ module _ (t ps own : List ℕ) (lead : ℕ) (b : Rect) (n i : ℕ) (z : KeptSoFa
           within = omega arith;
           few = omega (arith, z .few);
           room = length-set own n (getD ps i 0) ∙ z .room;
-          listed = subst (Listed t) (sym kept) (listed-more t (take n own) (getD ps i 0) (z .listed) (q .listed i h));
+          listed = subst (Listed 4 t) (sym kept) (listed-more 4 t (take n own) (getD ps i 0) (z .listed) (q .listed i h));
           same = λ x y p q′ r s.
               ap₂ (λ (u : Bool) (m : ℕ). u || heldBy t (drop m ps) x y || leads x y) (more x y) (add-one i)
               ∙ ap (λ (u : Bool). u || leads x y) (or-assoc (heldBy t (take n own) x y) (holds-here x y) (heldBy t (drop (suc i) ps) x y))
@@ -279,7 +275,7 @@ module _ (t ps own : List ℕ) (lead : ℕ) (b : Rect) (n i : ℕ) (z : KeptSoFa
         }
       where
         kept : take (n + 1) (set own n (getD ps i 0)) ≡ take n own ++ (getD ps i 0 ∷ [])
-        kept = ap (λ (m : ℕ). take m (set own n (getD ps i 0))) (add-one n) ∙ take-suc-set own n (getD ps i 0) (omega (arith, z .few, z .room, q .few))
+        kept = kept-more own n (getD ps i 0) (omega (arith, z .few, z .room, q .few))
 
         more : (x y : ℕ) → heldBy t (take (n + 1) (set own n (getD ps i 0))) x y ≡ (heldBy t (take n own) x y || holds-here x y)
         more x y =

@@ -14,7 +14,8 @@ ghost use Prim.Native.Nat.{_<_};
 ghost use mathlib.Core.Path.{_≡_};
 ghost use lib.ListN.{length, getD};
 ghost use Rattle.spacing.specs.Free.{regionAt};
-ghost use Rattle.spacing.specs.Counting.{Listed, Lists, Countable, Keeps};
+ghost use Rattle.geometry.specs.Places.{Listed};
+ghost use Rattle.spacing.specs.Counting.{Lists, Countable, Keeps};
 ghost use Rattle.spacing.specs.Sizes.{SmallTable, PartRoom, liveRoom};
 
 // How many regions may be left for a box, or be live.
@@ -40,7 +41,7 @@ pub(crate) fn list_places(part: Part, out: &mut [u16]) -> usize
 // The region at a place of a list.
 pub(crate) fn listed_region(regions: &[u64], places: &[u16], i: usize) -> Region
     requires { ⌜ SmallTable (now regions) ⌝ }
-    requires { ⌜ Listed (now regions) (now places) ⌝ }
+    requires { ⌜ Listed 4 (now regions) (now places) ⌝ }
     requires { ⌜ i < length (now places) ⌝ }
     ensures { λ r. ⌜ r ≡ regionAt (now (regions .entry)) (getD (now (places .entry)) i 0) ⌝ }
 {

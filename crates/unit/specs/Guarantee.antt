@@ -4,8 +4,9 @@
 -- Determined by the definitions, but nothing more is promised of it: "undecided" says neither that the fill is safe nor that some placement
 -- breaks a bound, and the start that it names need not be the worst, nor need the one that "broken" names; kept counts starts and not windows,
 -- and may be positive after "met"; after "stopped", or after "met" with a large accuracy, the ends of a bracket may be far apart; where those
--- of the greatest differ, density, their middle, need not be that of any window and may pass 10000 (how far it may be off is promised). Of a refused
--- file there is its first fault and a buffer as it was. Time, stack and what the program reads and writes stand in no contract.
+-- of the greatest differ, density, their middle, need not be that of any window and may pass 10000 (how far it may be off is promised); of the
+-- positions that fail a bound there is their number and not where they are, and planned fill is not in it, so some may be under L after "safe". Of a
+-- refused file there is its first fault and a buffer as it was. Time, stack and what the program reads and writes stand in no contract.
 use Prim.Native.Nat.{ℕ, _≤_, _<_}
 use mathlib.Core.Path.{_≡_}
 use mathlib.Core.List.{List}
@@ -54,7 +55,8 @@ PrintedAlike = (h : Head) (g g′ : Gap) (rest : List ℕ) → MayBegin unitLimi
     printedFor (fileWith h g′ rest) ≡ printedFor (fileWith h g rest)
 
 -- document 02, request 6: a file that was accepted while corner gaps were square is answered by what stood then: head, rectangles and amounts. No
--- fillable area enters an answer, so all of it, the verdict too, is what it was; reply and buffer are functions of the same outcome
+-- fillable area enters an answer, so the test of corners changes none of its lines, the verdict's neither; reply and buffer are functions of the
+-- same outcome
 abbrev pub AnsweredAsBefore : Type 0
 AnsweredAsBefore = (file : List ℕ) (st : Standing) → AcceptedBefore unitLimits file st →
     printedFor file ≡ textOf (answerFor (st .head) (rectangles (st .shapes)) (st .amounts))

@@ -24,7 +24,6 @@ use Rattle.fill.specs.declared.Verdict.{Verdict}
 use Rattle.spacing.specs.Eligible.{gapBetween, square}
 use Rattle.fill.specs.Judge.{boundNumber, verdictNumbers}
 use Rattle.fill.specs.Placement.{Placement, placedSum, keeps}
-use Rattle.positions.specs.declared.Tally.{Tally}
 use Rattle.positions.specs.Tallies.{positionsWhere}
 use Rattle.forms.specs.declared.Kind.{Kind}
 use Rattle.forms.specs.declared.Kind.the-variants.{Drawn, Dummy}
