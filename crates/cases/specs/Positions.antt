@@ -16,16 +16,24 @@ tells rs n w lower upper = let t = tallyOf rs n w lower upper in t .under ∷ t 
 abbrev corner : List Rect
 corner = record { x1 = 0; y1 = 0; x2 = 1; y2 = 1 } ∷ []
 
+-- two rows of three squares
+abbrev slab : List Rect
+slab = record { x1 = 0; y1 = 0; x2 = 3; y2 = 2 } ∷ []
+
+-- three shapes that touch, from the lower left corner to the right
+abbrev three : List Rect
+three = record { x1 = 0; y1 = 0; x2 = 1; y2 = 1 } ∷ record { x1 = 1; y1 = 0; x2 = 3; y2 = 2 } ∷ record { x1 = 3; y1 = 0; x2 = 5; y2 = 1 } ∷ []
+
 abbrev pub positionRows : List Row
 positionRows =
     row "job A: all within" (tells shapesA 8 4 0 5000) (0 ∷ 25 ∷ 0 ∷ [])
     ∷ row "L at the least area" (tells shapesA 8 4 625 10000) (0 ∷ 25 ∷ 0 ∷ [])
-    ∷ row "L one ten-thousandth above it" (tells shapesA 8 4 626 10000) (4 ∷ 21 ∷ 0 ∷ [])
+    ∷ row "L one ten-thousandth above the least area" (tells shapesA 8 4 626 10000) (4 ∷ 21 ∷ 0 ∷ [])
     ∷ row "U at the greatest area" (tells shapesA 8 4 0 2500) (0 ∷ 25 ∷ 0 ∷ [])
-    ∷ row "U one ten-thousandth below it" (tells shapesA 8 4 0 2499) (0 ∷ 16 ∷ 9 ∷ [])
-    ∷ row "L and U at an area between" (tells shapesA 8 4 1250 1250) (4 ∷ 12 ∷ 9 ∷ [])
-    ∷ row "L above it and U below the next" (tells shapesA 8 4 1251 2499) (16 ∷ 0 ∷ 9 ∷ [])
-    ∷ row "U below it" (tells shapesA 8 4 0 1249) (0 ∷ 4 ∷ 21 ∷ [])
+    ∷ row "U one ten-thousandth below the greatest area" (tells shapesA 8 4 0 2499) (0 ∷ 16 ∷ 9 ∷ [])
+    ∷ row "L and U at 2 of 16, the area of most positions" (tells shapesA 8 4 1250 1250) (4 ∷ 12 ∷ 9 ∷ [])
+    ∷ row "L above 2 of 16, U below 4 of 16" (tells shapesA 8 4 1251 2499) (16 ∷ 0 ∷ 9 ∷ [])
+    ∷ row "U below 2 of 16" (tells shapesA 8 4 0 1249) (0 ∷ 4 ∷ 21 ∷ [])
     ∷ row "L and U of 0: every window with metal is over" (tells shapesA 8 4 0 0) (0 ∷ 0 ∷ 25 ∷ [])
     ∷ row "L and U of 10000: every window that is not full is under" (tells shapesA 8 4 10000 10000) (25 ∷ 0 ∷ 0 ∷ [])
     ∷ row "no shape, L of 0" (tells [] 8 4 0 0) (0 ∷ 25 ∷ 0 ∷ [])
@@ -38,6 +46,9 @@ positionRows =
     ∷ row "the same, L of 1112" (tells corner 4 3 1112 10000) (4 ∷ 0 ∷ 0 ∷ [])
     ∷ row "U of 1112 is kept, of 1111 not" (tells corner 4 3 0 1112) (0 ∷ 4 ∷ 0 ∷ [])
     ∷ row "the same, U of 1111" (tells corner 4 3 0 1111) (0 ∷ 3 ∷ 1 ∷ [])
+    ∷ row "6 of 9 squares are 6666.7 ten-thousandths: L of 6667 is not kept, though the density is rounded to it" (tells slab 3 3 6667 10000) (1 ∷ 0 ∷ 0 ∷ [])
+    ∷ row "6 of 64 squares are 937.5, which is rounded to 938: L of 938 is not kept" (tells slab 8 8 938 10000) (1 ∷ 0 ∷ 0 ∷ [])
+    ∷ row "three shapes beside each other: the last one counts too" (tells three 5 2 2500 5000) (9 ∷ 4 ∷ 3 ∷ [])
     ∷ row "job A, L and U both at the area that most positions have: equal is within"
     (prints "(job (size 8) (window 4) (cut 2) (gap 1) (bounds 1250 1250) (zoom 0 6))\n(rect 3 3 5 5)\n(end)\n")
     (printedLines
@@ -48,7 +59,7 @@ positionRows =
     ∷ "(positions 4 12 9)"
     ∷ "(fill broken under 0 0)"
     ∷ []))
-    ∷ row "job A, both bounds one ten-thousandth off: no position is within"
+    ∷ row "job A, L above 2 of 16 and U below 4 of 16: no position is within"
     (prints "(job (size 8) (window 4) (cut 2) (gap 1) (bounds 1251 2499) (zoom 0 6))\n(rect 3 3 5 5)\n(end)\n")
     (printedLines
     ("(exact (max 4 1 1 1) (min 1 0 0 1))"

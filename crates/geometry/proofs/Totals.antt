@@ -24,11 +24,11 @@ pub record SoFar (f : List ℕ → ℕ) (t : List ℕ) (total i : ℕ) : Type 0 
 pub so-far-start : (f : List ℕ → ℕ) (t : List ℕ) → SoFar f t 0 0
 so-far-start f t = record { whole = zero-add (f t); small = omega arith; within = omega arith }
 
-so-far-next : (f : List ℕ → ℕ) (t : List ℕ) (total i k v : ℕ) → SoFar f t total i → f (drop i t) ≡ v + f (drop (i + k) t) → v ≤ largest → 1 ≤ k →
+pub so-far-next : (f : List ℕ → ℕ) (t : List ℕ) (total i k v : ℕ) → SoFar f t total i → f (drop i t) ≡ v + f (drop (i + k) t) → v ≤ largest → 1 ≤ k →
     i + k ≤ length t → SoFar f t (total + v) (i + k)
 so-far-next f t total i k v s e h p l = record { whole = omega (arith, e, s .whole); small = omega (arith, s .small); within = l }
 
-so-far-end : (f : List ℕ → ℕ) (t : List ℕ) (total i : ℕ) → SoFar f t total i → f (drop i t) ≡ 0 → total ≡ f t
+pub so-far-end : (f : List ℕ → ℕ) (t : List ℕ) (total i : ℕ) → SoFar f t total i → f (drop i t) ≡ 0 → total ≡ f t
 so-far-end f t total i s e = omega (arith, e, s .whole)
 
 pub small-product : (a b : ℕ) → a ≤ widest → b ≤ widest → a * b ≤ largest

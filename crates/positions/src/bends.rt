@@ -8,7 +8,7 @@ ghost use Rattle.geometry.specs.Sizes.{widest};
 ghost use Rattle.geometry.specs.Cuts.{FullBox};
 ghost use Rattle.positions.specs.Counting.{reached, shared, inside, bendsBetween, bends};
 
-// The squares that some window from the box has.
+// The squares that some window from the box has, its far sides included.
 pub(crate) fn reached_box(w: u64, b: Rect) -> Rect
     requires { ⌜ (w ≤ widest) × FullBox b ⌝ }
     ensures { λ r. ⌜ r ≡ reached w b ⌝ }
@@ -21,7 +21,7 @@ pub(crate) fn reached_box(w: u64, b: Rect) -> Rect
     }
 }
 
-// The squares that every window from the box has.
+// The squares that every window from the box has, its far sides included.
 pub(crate) fn shared_box(w: u64, b: Rect) -> Rect
     requires { ⌜ (w ≤ widest) × FullBox b ⌝ }
     ensures { λ r. ⌜ r ≡ shared w b ⌝ }

@@ -43,13 +43,13 @@ struct Patch {
     corners: Corners,
 }
 
-// What is left for a box: so many rectangles, and the corners by all others.
+// What is left for a box: how many rectangles, and the corners by all others.
 struct Rest {
     count: usize,
     corners: Corners,
 }
 
-// The values where a cut meets the sides of a box.
+// The values where a cut meets the sides of a box: below and above, or left and right.
 struct Seam {
     first: u64,
     second: u64,

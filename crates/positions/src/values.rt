@@ -67,7 +67,7 @@ pub(crate) fn most_corner(v: Corners) -> u64
 }
 
 // The value i of n steps on from a, where n steps lead straight to b.
-pub(crate) fn value_between(a: u64, b: u64, i: u64, n: u64) -> u64
+fn value_between(a: u64, b: u64, i: u64, n: u64) -> u64
     requires { ⌜ (a ≤ largest) × (b ≤ largest) ⌝ }
     requires { ⌜ (i ≤ n) × (0 < n) × (n ≤ widest) ⌝ }
     ensures { λ r. ⌜ r ≡ between a b i n ⌝ }

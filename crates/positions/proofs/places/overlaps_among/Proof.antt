@@ -3,8 +3,8 @@ use Prim.Native.Nat.{_-_}
 use native.Mathlib.Omega.{arith}
 use borrow.Author.Needs.{needs}
 use lib.ListN.{length}
-use Rattle.geometry.proofs.Totals.{at-small}
-use Rattle.positions.proofs.Listing.{SummedSoFar, summing-starts, summing-fits, summing-one, summing-ends}
+use Rattle.geometry.proofs.Totals.{so-far-start, at-small}
+use Rattle.positions.proofs.Listing.{SummedSoFar, summing-fits, summing-one, summing-ends}
 use Rattle.positions.proofs.places.overlaps_among.Statement.{statement}
 use Rattle.positions.proofs.places.overlaps_among.Tie as tie
 
@@ -38,4 +38,4 @@ returns c = summing-ends _ _ _ _ _ (c .before .loop .inv) (c .loop-test .left)
 pub overlaps-among-spec : {M : Type 1} → statement M
 overlaps-among-spec =
     tie.close
-    (tie.spec Inv-loop μ-loop (λ c. summing-starts _ _ _) listed-rect-requires overlap-of-requires add-total (λ c. search needs) (λ c. search needs) loop-again returns)
+    (tie.spec Inv-loop μ-loop (λ c. so-far-start _ _) listed-rect-requires overlap-of-requires add-total (λ c. search needs) (λ c. search needs) loop-again returns)
