@@ -5,7 +5,8 @@
 //! The library reads the job for every phase and does the exact run before
 //! either quick one, so a phase is the difference of two times. These three runs
 //! and the positions take no fills; they are timed on the job without its fill
-//! lines, since reading those could hide them. Every time is the least of several
+//! lines, since reading those could hide them. Sorting the sides of the shapes,
+//! which the answer does once, counts with each of these four. Every time is the least of several
 //! runs; a dash stands for one that noise hides.
 //!
 //! An argument names an earlier state of the library, which is then timed in turn

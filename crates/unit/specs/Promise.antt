@@ -182,7 +182,7 @@ pub record PositionsPromise (st : Standing) (a : Answer) : Type 0 where
   -- together they are all positions, (N − W + 1) × (N − W + 1)
   pub all : a .positions .under + a .positions .within + a .positions .over
       ≡ positions (st .head .size) (st .head .window) * positions (st .head .size) (st .head .window)
-  -- fill only adds to a window: after "safe" no position is over, though some may be under, and after "broken under" some is
+  -- fill only adds to a window: after "safe" no position is over, though some may be under, and after "broken under" some position is under
   pub safe : verdictNumbers (a .verdict) ≡ 0 ∷ [] → a .positions .over ≡ 0
   pub broken-under : (i j : ℕ) → verdictNumbers (a .verdict) ≡ 1 ∷ boundNumber Under ∷ i ∷ j ∷ [] → 0 < a .positions .under
 
@@ -210,8 +210,8 @@ pub record FillPromise (st : Standing) (v : Verdict) : Type 0 where
       Clear (keepoutOf (st .head .gap) s) x y
 
 -- the answer to an accepted job: both extremes, the quick run of each beside it, the shapes under the windows that these name, the density,
--- the positions under, within and over the bounds, and the fill. The area of every window, and the shapes under it, are those of drawn metal and those of dummies together, so the bounds after "safe"
--- include old dummies
+-- the positions under, within and over the bounds, and the fill. The area of every window, and the shapes under it, are those of drawn metal and
+-- those of dummies together, so the bounds after "safe" include old dummies
 pub record Promises (st : Standing) (a : Answer) : Type 0 where
   pub both-kinds : (x y : ℕ) → areaAt st x y ≡ kindArea Drawn st x y + kindArea Dummy st x y
   pub both-counted : (x y : ℕ) → shapesAt st x y ≡ kindShapes Drawn st x y + kindShapes Dummy st x y

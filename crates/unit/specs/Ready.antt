@@ -19,7 +19,7 @@ use Rattle.jobfile.specs.Held.{shapesRoom, amountsRoom}
 use Rattle.unit.specs.declared.run.Answer.{Answer}
 use Rattle.unit.specs.Answering.{answerFor}
 
--- what 64 bits ask of a job that is run
+-- what is asked of a job that is run: what 64 bits hold, and L ≤ U
 pub record Ready (h : Head) (rects amounts : List ℕ) : Type 0 where
   pub layer : Layer rects
   pub some-window : 1 ≤ h .window

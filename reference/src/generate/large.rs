@@ -30,8 +30,8 @@ impl LargeJob {
             .collect()
     }
 
-    /// The job without its fill lines, and with bounds that a third of the positions
-    /// are under and a third over, so that many areas must be told from a bound.
+    /// The job without its fill lines, and with bounds that about a third of the
+    /// positions are under and a third over where areas differ, so that many areas must be told from a bound.
     pub fn with_bounds_among_areas(&self) -> Vec<u8> {
         let job = fast::read(&self.without_fills()).expect("large jobs are valid");
         within_limit(&bounds::with_bounds_among_areas(job))
