@@ -47,9 +47,9 @@ cornerRows =
     ∷ row "a wide shape, B = 4"
     (tells (record { rect = record { x1 = 4; y1 = 5; x2 = 8; y2 = 6 }; gap = 4 } ∷ []) ((11, 9) ∷ (10, 9) ∷ (0, 1) ∷ (1, 1) ∷ (0, 2) ∷ []))
     (1 ∷ 0 ∷ 1 ∷ 0 ∷ 0 ∷ [])
-    ∷ row "the largest gap: 39321 and 52428 are just it"
-    (tells (shapeAt 0 0 65535 ∷ []) ((39322, 52429) ∷ (39321, 52429) ∷ (65535, 65535) ∷ (65535, 0) ∷ (65536, 0) ∷ []))
-    (1 ∷ 0 ∷ 1 ∷ 0 ∷ 1 ∷ [])
+    ∷ row "the largest gap: 600,000 and 800,000 are just it"
+    (tells (shapeAt 0 0 1000000 ∷ []) ((600001, 800001) ∷ (600000, 800001) ∷ (600001, 800000) ∷ (1000000, 1000000) ∷ (1000000, 0) ∷ (1000001, 0) ∷ []))
+    (1 ∷ 0 ∷ 0 ∷ 1 ∷ 0 ∷ 1 ∷ [])
     ∷ row "what becomes eligible with B = 4: squares before and now, and all around a shape"
     (one-if (eligibleBefore (shapeAt 5 5 4 ∷ []) 9 9) ∷ one-if (eligible (shapeAt 5 5 4 ∷ []) 9 9)
     ∷ one-if (eligibleBefore (shapeAt 5 5 4 ∷ []) 10 5) ∷ one-if (eligible (shapeAt 5 5 4 ∷ []) 10 5)

@@ -83,11 +83,8 @@ dummyRows =
     ∷ row "a dummy whose corners are exchanged"
     (prints "(job (size 8) (window 4) (cut 2) (gap 1) (bounds 0 5000) (zoom 0 6))\n(dummy 5 5 3 3)\n")
     (bytes "(refused 6 2)\n")
-    ∷ row "a dummy with a corner out of its range"
-    (prints "(job (size 8) (window 4) (cut 2) (gap 1) (bounds 0 5000) (zoom 0 6))\n(dummy 3 3 5 65536)\n")
-    (bytes "(refused 3 2)\n")
     ∷ row "dummies in loads for the lower bound; D as large as may be"
-    (prints "(job (size 2) (window 2) (cut 2) (gap 0 65535) (bounds 10000 10000) (zoom 0 6))\n(dummy 0 0 2 2)\n(end)\n")
+    (prints "(job (size 2) (window 2) (cut 2) (gap 0 1000000) (bounds 10000 10000) (zoom 0 6))\n(dummy 0 0 2 2)\n(end)\n")
     (printedLines
     ("(exact (max 4 0 0 1) (min 4 0 0 1))"
     ∷ "(zoom met (levels 1) (floor 4 0 0 1) (ceiling 4) (kept 0))"
@@ -119,10 +116,7 @@ dummyRows =
     ∷ row "a dummy with three corners"
     (prints "(job (size 8) (window 4) (cut 2) (gap 1) (bounds 0 5000) (zoom 0 6))\n(dummy 3 3 5)\n")
     (bytes "(refused 2 2)\n")
-    ∷ row "D out of its range"
-    (prints "(job (size 8) (window 4) (cut 2) (gap 1 65536) (bounds 0 5000) (zoom 0 6))\n")
-    (bytes "(refused 3 1)\n")
     ∷ row "a head with D that disagrees"
-    (prints "(job (size 8) (window 9) (cut 9) (gap 1 65535) (bounds 0 5000) (zoom 0 6))\n")
+    (prints "(job (size 8) (window 9) (cut 9) (gap 1 1000000) (bounds 0 5000) (zoom 0 6))\n")
     (bytes "(refused 5 1)\n")
     ∷ []

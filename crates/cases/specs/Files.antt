@@ -17,8 +17,6 @@ fileRows =
     ∷ row "no last line feed" (prints "(job (size 8) (window 4) (cut 2) (gap 1) (bounds 0 5000) (zoom 0 6))\n(end)") (bytes "(refused 2 2)\n")
     ∷ row "doubled space" (prints "(job (size 8) (window 4) (cut 2) (gap 1) (bounds 0  5000) (zoom 0 6))\n") (bytes "(refused 2 1)\n")
     ∷ row "leading zero" (prints "(job (size 08) (window 4) (cut 2) (gap 1) (bounds 0 5000) (zoom 0 6))\n") (bytes "(refused 2 1)\n")
-    ∷ row "eleven digits" (prints "(job (size 10000000000) (window 4) (cut 2) (gap 1) (bounds 0 5000) (zoom 0 6))\n") (bytes "(refused 2 1)\n")
-    ∷ row "ten digits" (prints "(job (size 9999999999) (window 4) (cut 2) (gap 1) (bounds 0 5000) (zoom 0 6))\n") (bytes "(refused 3 1)\n")
     ∷ row "rectangle first" (prints "(rect 3 3 5 5)\n") (bytes "(refused 4 1)\n")
     ∷ row "second head"
     (prints

@@ -6,6 +6,7 @@ pub mod Zoom
 pub mod Fill
 pub mod Printing
 pub mod Files
+pub mod Ranges
 pub mod Dummies
 pub mod Corners
 pub mod Positions

@@ -7,9 +7,10 @@ use Rattle.cases.specs.Exact.{exactRows}
 use Rattle.cases.specs.Zoom.{zoomRows}
 use Rattle.cases.specs.Fill.{fillRows}
 use Rattle.cases.specs.Files.{fileRows}
+use Rattle.cases.specs.Ranges.{rangeRows}
 use Rattle.cases.specs.Dummies.{dummyRows}
 use Rattle.cases.specs.Corners.{cornerRows}
 use Rattle.cases.specs.Positions.{positionRows}
 
 abbrev pub table : List Row
-table = areaRows ++ exactRows ++ zoomRows ++ fillRows ++ fileRows ++ dummyRows ++ cornerRows ++ positionRows
+table = areaRows ++ exactRows ++ zoomRows ++ fillRows ++ fileRows ++ rangeRows ++ dummyRows ++ cornerRows ++ positionRows

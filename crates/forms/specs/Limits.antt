@@ -1,4 +1,5 @@
--- Document 01, "The job file": the limits of a file and of its numbers. They are a value, so that two sets of limits can be compared.
+-- Document 01, "The job file", and document 02, request 8: the limits of a file and of its numbers. They are a value, so that two sets of limits can be
+-- compared.
 use Prim.Native.Nat.{ℕ, _≤_}
 
 -- the most that a file may have: bytes of the file, digits of a number, shapes; and the greatest value of each sort of number
@@ -19,9 +20,14 @@ pub record Limits : Type 0 where
   -- P
   pub amount : ℕ
 
--- the unit's limits: those of document 01. The contracts cite them
+-- the unit's limits: those of document 01, with sides, amounts and digits as request 8 widened them. The contracts cite them
 abbrev pub unitLimits : Limits
 unitLimits =
+    record { bytes = 60000; digits = 13; shapes = 256; side = 1000000; tiles = 64; bound = 10000; accuracy = 1000; levels = 6; amount = 1000000000000 }
+
+-- the limits before that request, for the law that compares the two
+abbrev pub earlierLimits : Limits
+earlierLimits =
     record { bytes = 60000; digits = 10; shapes = 256; side = 65535; tiles = 64; bound = 10000; accuracy = 1000; levels = 6; amount = 4294836225 }
 
 -- every old limit is at most the new one

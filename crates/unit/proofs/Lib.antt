@@ -6,3 +6,4 @@ pub mod Demand
 pub mod Running
 pub mod Accepting
 pub mod Replying
+pub mod Alike

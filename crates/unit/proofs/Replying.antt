@@ -15,7 +15,6 @@ use Rattle.fill.specs.Judge.{numberAt}
 use Rattle.spelling.specs.Text.{bytes}
 use Rattle.spelling.specs.Pattern.{spell}
 use Rattle.forms.specs.declared.Form.{Form}
-use Rattle.forms.specs.declared.Gap.{Gap}
 use Rattle.forms.specs.declared.Form.the-variants.{Unknown, Heading, Metal, Fill, End}
 use Rattle.forms.specs.Limits.{Limits, unitLimits}
 use Rattle.forms.specs.Shapes.{rectangles}
@@ -24,17 +23,14 @@ use Rattle.forms.specs.Spellings.{spellingOf}
 use Rattle.jobfile.specs.Faults.{Standing, beforeHead, check, inTurn, ownFault, shapeFault, roomOf, fillFault, lineFault}
 use Rattle.jobfile.specs.File.{Outcome, refused, accepted, outcomeOf}
 use Rattle.jobfile.specs.Acceptance.{formsText, LineFault, spelled, unspelled, FirstFault, faulty, unfed, unended, RefusedFile, long, lines}
-use Rattle.jobfile.specs.Gaps.{outcomeWith, fileWith}
 use Rattle.jobfile.proofs.Files.{acceptance}
-use Rattle.jobfile.proofs.SameGaps.{gaps-decide}
-use Rattle.jobfile.proofs.StillAccepted.{still-accepted}
 use Rattle.unit.specs.declared.Reply.{Reply}
 use Rattle.unit.specs.declared.Reply.the-variants.{Accepted, Refused}
 use Rattle.unit.specs.declared.render.Rendered.{Rendered}
-use Rattle.unit.specs.Answering.{answerFor, answerOf, textOf}
+use Rattle.unit.specs.Answering.{answerOf, textOf}
 use Rattle.unit.specs.Whole.{replyTo, bufferAfter, replyFor, bufferFor, replyNumber, replyValue, codeOf, printedOf, printedFor}
 use Rattle.unit.specs.Room.{answerRoom}
-use Rattle.unit.specs.Guarantee.{Guarantee, Reported, PrintedAlike, AnsweredAsBefore}
+use Rattle.unit.specs.Guarantee.{Guarantee, Reported}
 use Rattle.unit.specs.Rendering.{WrittenIn, asRendered, renderedIn, Rendering}
 use Rattle.unit.proofs.Accepting.{promised, refused-positive, found-accepted}
 
@@ -234,19 +230,3 @@ printed-refusal file before text d p bad after next w = go (outcomeOf unitLimits
               ∙ ap (λ (t : List ℕ). t ++ drop (length t) text) same
               ∙ ap (λ (l : List ℕ). refusal number line ++ drop (length (refusal number line)) l) (q .buffer);
         }
-
--- ---- files that differ in their gaps
-
-with-printed : (g : Gap) (o : Outcome) → printedOf (outcomeWith g o) ≡ printedOf o
-unfolding answerFor
-with-printed g (refused number line) = refl
-with-printed g (accepted st) = refl
-
-pub printed-alike : PrintedAlike
-printed-alike h g g′ rest k k′ same =
-    ap printedOf (gaps-decide unitLimits h g g′ rest k k′ same) ∙ with-printed g′ (outcomeOf unitLimits (fileWith h g rest))
-
--- ---- files from before corner gaps were round
-
-pub answered-as-before : AnsweredAsBefore
-answered-as-before file st a = ap printedOf (still-accepted unitLimits file st a)

@@ -1,5 +1,5 @@
 -- Start here: what a buyer may rely on, for every file and every lent buffer. The contracts of src/lib.rt cite it, so it binds the code; the last
--- two definitions are laws about files, and proofs/Replying.antt proves them.
+-- definitions are laws about files, and proofs/Alike.antt proves them.
 --
 -- Determined by the definitions, but nothing more is promised of it: "undecided" says neither that the fill is safe nor that some placement
 -- breaks a bound, and the start that it names need not be the worst, nor need the one that "broken" names; kept counts starts and not windows,
@@ -14,15 +14,16 @@ use lib.ListN.{length, take}
 use Rattle.buffers.specs.Written.{Front}
 use Rattle.forms.specs.declared.Gap.{Gap}
 use Rattle.forms.specs.declared.Head.{Head}
-use Rattle.forms.specs.Limits.{unitLimits}
+use Rattle.forms.specs.Limits.{unitLimits, earlierLimits}
 use Rattle.forms.specs.Shapes.{rectangles}
 use Rattle.jobfile.specs.Faults.{Standing}
+use Rattle.jobfile.specs.File.{outcomeOf}
 use Rattle.jobfile.specs.Acceptance.{AcceptedFile, Acceptance}
 use Rattle.jobfile.specs.Gaps.{fileWith, MayBegin, SameGaps}
 use Rattle.jobfile.specs.SquareCorners.{AcceptedBefore}
 use Rattle.unit.specs.declared.Reply.{Reply}
 use Rattle.unit.specs.Answering.{answerOf, answerFor, textOf}
-use Rattle.unit.specs.Whole.{replyFor, bufferFor, replyNumber, replyValue, printedFor}
+use Rattle.unit.specs.Whole.{replyTo, bufferAfter, replyFor, bufferFor, replyNumber, replyValue, printedOf, printedFor}
 use Rattle.unit.specs.Room.{answerRoom}
 use Rattle.unit.specs.Promise.{Promises}
 
@@ -54,9 +55,20 @@ abbrev pub PrintedAlike : Type 0
 PrintedAlike = (h : Head) (g g′ : Gap) (rest : List ℕ) → MayBegin unitLimits h g rest → MayBegin unitLimits h g′ rest → SameGaps unitLimits g g′ rest →
     printedFor (fileWith h g′ rest) ≡ printedFor (fileWith h g rest)
 
--- document 02, request 6: a file that was accepted while corner gaps were square is answered by what stood then: head, rectangles and amounts. No
--- fillable area enters an answer, so the test of corners changes none of its lines, the verdict's neither; reply and buffer are functions of the
--- same outcome
+-- document 02, request 8: a file that was accepted under the earlier limits is accepted with the same standing. It is printed alike, byte for byte, and
+-- every lent buffer gets the same reply and the same bytes
+pub record AnswerKept (file : List ℕ) (st : Standing) : Type 0 where
+  pub accepted : AcceptedFile unitLimits file st
+  pub printed : printedFor file ≡ printedOf (outcomeOf earlierLimits file)
+  pub reply : (room : ℕ) → replyFor file room ≡ replyTo (outcomeOf earlierLimits file) room
+  pub buffer : (before : List ℕ) → bufferFor file before ≡ bufferAfter (outcomeOf earlierLimits file) before
+
+abbrev pub AnswersKept : Type 0
+AnswersKept = (file : List ℕ) (st : Standing) → AcceptedFile earlierLimits file st → AnswerKept file st
+
+-- document 02, request 6: a file that was accepted under these limits while corner gaps were square is answered by what stood then: head, rectangles
+-- and amounts. No fillable area enters an answer, so the test of corners changes none of its lines, the verdict's neither; reply and buffer are
+-- functions of the same outcome
 abbrev pub AnsweredAsBefore : Type 0
-AnsweredAsBefore = (file : List ℕ) (st : Standing) → AcceptedBefore unitLimits file st →
+AnsweredAsBefore = (file : List ℕ) (st : Standing) → AcceptedBefore earlierLimits file st →
     printedFor file ≡ textOf (answerFor (st .head) (rectangles (st .shapes)) (st .amounts))
