@@ -1,5 +1,5 @@
-// The limits that document 01 asks to be run, and dummies among the shapes, one
-// file each, and what the program prints for them.
+// Files at the limits that document 01 asks to be run, with dummies among the shapes
+// too, and at the ends of the ranges of numbers: what the program prints for each.
 use libc::STDOUT_FILENO;
 
 // Prints what the program prints for a file.
@@ -17,7 +17,8 @@ fn show(path: &[u8]) {
     io::write_all(STDOUT_FILENO, &text[..length]);
 }
 
-fn main() {
+// Document 01's limits and edges.
+fn show_limits() {
     show(b"bytes_60000.job");
     show(b"bytes_60001.job");
     show(b"rects_256.job");
@@ -37,4 +38,27 @@ fn main() {
     show(b"empty.job");
     show(b"no_end.job");
     show(b"no_line_feed.job");
+}
+
+// The largest numbers, each with the next one.
+fn show_ranges() {
+    show(b"side_1000000.job");
+    show(b"side_1000001.job");
+    show(b"window_1000000.job");
+    show(b"window_1000001.job");
+    show(b"gap_1000000.job");
+    show(b"gap_1000001.job");
+    show(b"dummy_gap_1000000.job");
+    show(b"dummy_gap_1000001.job");
+    show(b"corner_1000000.job");
+    show(b"corner_1000001.job");
+    show(b"amount_1000000000000.job");
+    show(b"amount_1000000000001.job");
+    show(b"digits_13.job");
+    show(b"digits_14.job");
+}
+
+fn main() {
+    show_limits();
+    show_ranges();
 }
