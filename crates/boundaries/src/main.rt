@@ -47,8 +47,10 @@ fn show_ranges() {
     show(b"window_1000000.job");
     show(b"window_1000001.job");
     show(b"gap_1000000.job");
+    show(b"gap_1000000_over.job");
     show(b"gap_1000001.job");
     show(b"dummy_gap_1000000.job");
+    show(b"dummy_gap_1000000_over.job");
     show(b"dummy_gap_1000001.job");
     show(b"corner_1000000.job");
     show(b"corner_1000001.job");
@@ -56,6 +58,7 @@ fn show_ranges() {
     show(b"amount_1000000000001.job");
     show(b"digits_13.job");
     show(b"digits_14.job");
+    show(b"positions_1000000.job");
 }
 
 fn main() {

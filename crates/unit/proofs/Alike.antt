@@ -1,5 +1,5 @@
 -- Files that are answered alike: where heads differ in gaps that no shape has, and files from before a request.
-use mathlib.Core.Path.{_≡_, refl, sym, ap, _∙_}
+use mathlib.Core.Path.{_≡_, refl, ap, _∙_}
 use lib.Dec.{lit≤}
 use Rattle.forms.specs.declared.Gap.{Gap}
 use Rattle.forms.specs.Limits.{unitLimits, earlierLimits, Widened}
@@ -40,26 +40,19 @@ widened =
       amount = lit≤ tt;
     }
 
--- what comes to `accepted st` under the earlier limits comes to it under the unit's
 pub answers-kept : AnswersKept
-answers-kept file st a =
+answers-kept file st then =
     record {
-      accepted = acceptance unitLimits file .accepted-only-if st now;
-      printed = ap printedOf same;
-      reply = λ room. ap (λ (o : Outcome). replyTo o room) same;
-      buffer = λ before. ap (λ (o : Outcome). bufferAfter o before) same;
+      meaning = acceptance unitLimits file .accepted-only-if st now;
+      printed = ap printedOf now;
+      reply = λ room. ap (λ (o : Outcome). replyTo o room) now;
+      buffer = λ before. ap (λ (o : Outcome). bufferAfter o before) now;
     }
   where
-    then : outcomeOf earlierLimits file ≡ accepted st
-    then = acceptance earlierLimits file .accepted-if st a
-
     now : outcomeOf unitLimits file ≡ accepted st
     now = widening earlierLimits unitLimits widened file st then
-
-    same : outcomeOf unitLimits file ≡ outcomeOf earlierLimits file
-    same = now ∙ sym then
 
 -- ---- files from before corner gaps were round
 
 pub answered-as-before : AnsweredAsBefore
-answered-as-before file st a = ap printedOf (widening earlierLimits unitLimits widened file st (still-accepted earlierLimits file st a))
+answered-as-before file st a = answers-kept file st (still-accepted earlierLimits file st a)

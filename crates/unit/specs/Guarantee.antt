@@ -15,14 +15,13 @@ use Rattle.buffers.specs.Written.{Front}
 use Rattle.forms.specs.declared.Gap.{Gap}
 use Rattle.forms.specs.declared.Head.{Head}
 use Rattle.forms.specs.Limits.{unitLimits, earlierLimits}
-use Rattle.forms.specs.Shapes.{rectangles}
 use Rattle.jobfile.specs.Faults.{Standing}
-use Rattle.jobfile.specs.File.{outcomeOf}
+use Rattle.jobfile.specs.File.{accepted, outcomeOf}
 use Rattle.jobfile.specs.Acceptance.{AcceptedFile, Acceptance}
 use Rattle.jobfile.specs.Gaps.{fileWith, MayBegin, SameGaps}
 use Rattle.jobfile.specs.SquareCorners.{AcceptedBefore}
 use Rattle.unit.specs.declared.Reply.{Reply}
-use Rattle.unit.specs.Answering.{answerOf, answerFor, textOf}
+use Rattle.unit.specs.Answering.{answerOf}
 use Rattle.unit.specs.Whole.{replyTo, bufferAfter, replyFor, bufferFor, replyNumber, replyValue, printedOf, printedFor}
 use Rattle.unit.specs.Room.{answerRoom}
 use Rattle.unit.specs.Promise.{Promises}
@@ -55,20 +54,20 @@ abbrev pub PrintedAlike : Type 0
 PrintedAlike = (h : Head) (g g′ : Gap) (rest : List ℕ) → MayBegin unitLimits h g rest → MayBegin unitLimits h g′ rest → SameGaps unitLimits g g′ rest →
     printedFor (fileWith h g′ rest) ≡ printedFor (fileWith h g rest)
 
--- document 02, request 8: a file that was accepted under the earlier limits is accepted with the same standing. It is printed alike, byte for byte, and
--- every lent buffer gets the same reply and the same bytes
-pub record AnswerKept (file : List ℕ) (st : Standing) : Type 0 where
-  pub accepted : AcceptedFile unitLimits file st
-  pub printed : printedFor file ≡ printedOf (outcomeOf earlierLimits file)
-  pub reply : (room : ℕ) → replyFor file room ≡ replyTo (outcomeOf earlierLimits file) room
-  pub buffer : (before : List ℕ) → bufferFor file before ≡ bufferAfter (outcomeOf earlierLimits file) before
+-- a file is answered by what stands at its end: it is accepted with that, and what is printed, the reply to a buffer of any length and every byte of
+-- the buffer are those of this outcome
+pub record AnsweredBy (file : List ℕ) (st : Standing) : Type 0 where
+  pub meaning : AcceptedFile unitLimits file st
+  pub printed : printedFor file ≡ printedOf (accepted st)
+  pub reply : (room : ℕ) → replyFor file room ≡ replyTo (accepted st) room
+  pub buffer : (before : List ℕ) → bufferFor file before ≡ bufferAfter (accepted st) before
 
+-- document 02, request 8: a file that came to `accepted st` under the earlier limits still does. So its answer is kept, byte for byte, and so is the reply
+-- to every buffer
 abbrev pub AnswersKept : Type 0
-AnswersKept = (file : List ℕ) (st : Standing) → AcceptedFile earlierLimits file st → AnswerKept file st
+AnswersKept = (file : List ℕ) (st : Standing) → outcomeOf earlierLimits file ≡ accepted st → AnsweredBy file st
 
--- document 02, request 6: a file that was accepted under these limits while corner gaps were square is answered by what stood then: head, rectangles
--- and amounts. No fillable area enters an answer, so the test of corners changes none of its lines, the verdict's neither; reply and buffer are
--- functions of the same outcome
+-- document 02, request 6: the same of a file that was accepted under the earlier limits while corner gaps were square. No fillable area enters an
+-- answer, so the test of corners changes none of its lines, the verdict's neither
 abbrev pub AnsweredAsBefore : Type 0
-AnsweredAsBefore = (file : List ℕ) (st : Standing) → AcceptedBefore earlierLimits file st →
-    printedFor file ≡ textOf (answerFor (st .head) (rectangles (st .shapes)) (st .amounts))
+AnsweredAsBefore = (file : List ℕ) (st : Standing) → AcceptedBefore earlierLimits file st → AnsweredBy file st
