@@ -46,7 +46,7 @@ pub const COMPARED_LARGE_CORNER_SEEDS: Range<u64> = 7_000_000..7_000_012;
 /// Those of the jobs with bounds at or beside frequent areas.
 pub const COMPARED_BOUNDED_SEEDS: Range<u64> = 8_000_000..8_003_000;
 /// Those of such jobs at full size.
-pub const COMPARED_LARGE_BOUNDED_SEEDS: Range<u64> = 9_000_000..9_000_200;
+pub const COMPARED_LARGE_BOUNDED_SEEDS: Range<u64> = 9_000_200..9_000_400;
 
 /// Any small job: half of them valid, the others faulty or damaged.
 pub fn mixed_job(random: &mut Random) -> Vec<u8> {
