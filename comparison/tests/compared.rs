@@ -8,6 +8,7 @@ use reference::generate::{
     COMPARED_LARGE_BOUNDED_SEEDS, COMPARED_LARGE_CORNER_SEEDS, COMPARED_LARGE_SEEDS,
     COMPARED_SEEDS,
 };
+use reference::job::LARGEST_SIDE;
 use std::ops::Range;
 
 /// Compares one job for each of consecutive seeds. The second implementation's
@@ -71,7 +72,7 @@ fn bounds_at_frequent_areas() {
 #[test]
 fn heaviest_jobs() {
     on_large_stack(|| {
-        for job in large_jobs() {
+        for job in large_jobs(LARGEST_SIDE) {
             println!("{}", job.name);
             compare(&job.job);
         }

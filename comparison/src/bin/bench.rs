@@ -295,7 +295,7 @@ fn main() -> ExitCode {
         None => None,
     };
     on_large_stack(move || {
-        let jobs = large_jobs();
+        let jobs = large_jobs(reference::job::LARGEST_SIDE);
         jobs.iter().for_each(|large| bench(earlier, large));
     });
     ExitCode::SUCCESS

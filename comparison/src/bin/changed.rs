@@ -12,6 +12,7 @@ use reference::generate::{
     boundary_jobs, bounded_job, corner_job, damaged_job, faulty_job, large_bounded_job, large_job,
     large_jobs, small_job, Random,
 };
+use reference::job::LARGEST_SIDE;
 use std::collections::BTreeMap;
 use std::process::ExitCode;
 
@@ -34,7 +35,7 @@ fn jobs() -> impl Iterator<Item = Vec<u8>> {
         .into_iter()
         .flat_map(|(count, make)| (0..count).map(move |seed| make(&mut Random::new(seed))));
     let limits = boundary_jobs().into_iter().map(|case| case.job);
-    let heaviest = large_jobs().into_iter().map(|large| large.job);
+    let heaviest = large_jobs(LARGEST_SIDE).into_iter().map(|large| large.job);
     limits.chain(heaviest).chain(random)
 }
 
