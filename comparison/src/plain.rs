@@ -127,7 +127,7 @@ mod tests {
                 compare_runs(&small_job(&mut Random::new(seed)));
             }
             for large in large_jobs(LARGEST_SIDE) {
-                compare_runs(&large.job);
+                compare_runs(&large.without_fills());
             }
         });
     }

@@ -3,7 +3,7 @@
 mod common;
 
 use common::printed_by_both;
-use reference::answer::{answer, answer_by, printed, Method, Reply, ANSWER_ROOM};
+use reference::answer::{answer, printed, Answer, Method, Reply, ANSWER_ROOM};
 use reference::generate::{boundary_jobs, cautious_areas, large_job, large_jobs, LargeJob, Random};
 use reference::job::{Job, Kind, Refusal, LARGEST_SIDE};
 use reference::outcome::{
@@ -179,7 +179,7 @@ fn buffers_of_every_length() {
     for length in 0..text.len() + 20 {
         for method in [Method::Brute, Method::Fast] {
             let mut buffer = vec![b'#'; length];
-            let reply = answer_by(method, SMALL, &mut buffer);
+            let reply = Answer::new(method, SMALL).write(&mut buffer);
             if length < text.len() {
                 assert_eq!(
                     reply,
