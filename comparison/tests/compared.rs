@@ -72,9 +72,11 @@ fn bounds_at_frequent_areas() {
 #[test]
 fn heaviest_jobs() {
     on_large_stack(|| {
-        for job in large_jobs(LARGEST_SIDE) {
-            println!("{}", job.name);
-            compare(&job.job);
+        for side in [50_000, LARGEST_SIDE] {
+            for job in large_jobs(side) {
+                println!("{} of {side}", job.name);
+                compare(&job.job);
+            }
         }
     });
 }

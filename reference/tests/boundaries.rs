@@ -349,15 +349,15 @@ const SMALLER_SIDE: u64 = 50_000;
 fn heaviest_jobs_by_gap_have_many_fills_and_arcs() {
     let smaller = large_jobs(SMALLER_SIDE);
     for (name, gap, fills, gaining) in [
-        ("gap of 0", 0, 3470, 0),
-        ("gap of 1,000", 1000, 3470, 1100),
-        ("gap of 15,000", 15_000, 3470, 2200),
-        ("gap of 250,000", 250_000, 2000, 190),
+        ("gap of 0", 0, 3400, 0),
+        ("gap of 1,000", 1000, 3400, 1100),
+        ("gap of 15,000", 15_000, 3400, 2200),
+        ("gap of 250,000", 250_000, 2100, 190),
         ("gap of 1,000,000", 1_000_000, 690, 690),
         ("gap of 1,000, one tile", 1000, 1, 1),
         ("gap of 15,000, one tile", 15_000, 1, 1),
         ("gap of 250,000, one tile", 250_000, 1, 1),
-        ("gap of 250,000, diagonal", 250_000, 1100, 800),
+        ("gap of 250,000, diagonal", 250_000, 1800, 800),
     ] {
         let large = LARGE_JOBS.iter().find(|large| large.name == name).unwrap();
         let job = fast::read(&large.without_fills()).unwrap();
@@ -434,25 +434,6 @@ fn heaviest_jobs_by_bounds_have_positions_at_them() {
         assert_eq!(job.shapes.len(), 256, "{name}");
         for count in [found.under, found.within, found.over] {
             assert!(4 * count > job.positions(), "{name}: {found}");
-        }
-    }
-}
-
-/// A unit that is more careful at corners accepts all of them but one, in which
-/// only round corners leave any room.
-#[test]
-fn fills_of_the_heaviest_jobs_are_cautious() {
-    for LargeJob { name, job } in large_jobs(SMALLER_SIDE) {
-        let job = fast::read(&job).unwrap();
-        let mut pairs = job.fills.iter().zip(cautious_areas(&job));
-        if name == "gap of 1,000,000" {
-            assert_eq!(job.fills, fast::fillable_areas(&job), "{name}");
-            assert!(pairs.all(|(_, cautious)| cautious == 0), "{name}");
-        } else {
-            assert!(
-                pairs.all(|(amount, cautious)| *amount <= cautious),
-                "{name}"
-            );
         }
     }
 }

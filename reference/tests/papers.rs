@@ -846,9 +846,12 @@ fn gaps_of_a_head() {
 fn numbers_have_up_to_13_digits() {
     // For every number alike, whatever its range: 13 digits are a number, 14 none.
     for (digits, fault) in [
+        ("12345678901", 3),
+        ("999999999999", 3),
         ("1000000000000", 3),
         ("9999999999999", 3),
         ("10000000000000", 2),
+        ("12345678901234", 2),
     ] {
         for number in ["size 8", "window 4", "cut 2", "gap 1"] {
             let (name, _) = number.split_once(' ').unwrap();
@@ -906,6 +909,7 @@ fn the_largest_layout_can_be_filled_to_the_last_square() {
     assert!(fill("1000000000000").ends_with("(fill broken over 0 0)\n"));
     assert_eq!(fill("1000000000001"), "(refused 3 2)\n");
     assert_eq!(fill("10000000000000"), "(refused 2 2)\n");
+    assert!(fill("12345678901").ends_with("(fill safe)\n"));
     // A bound of 5000 is half of that.
     assert!(fill("500000000001").ends_with("(fill broken over 0 0)\n"));
     assert!(fill("500000000000").ends_with("(fill safe)\n"));
@@ -915,6 +919,17 @@ fn the_largest_layout_can_be_filled_to_the_last_square() {
         printed_large(1_000_000, 1_000_000, 1, square),
         "(refused 11 3)\n"
     );
+}
+
+/// An amount beyond the tile is one in its range: 65,535 x 65,535 and one more.
+#[test]
+fn a_layout_of_65_535_a_side() {
+    let print = |lines: &str| printed_large(65_535, 65_535, 1, lines);
+    assert!(print("(fill 0 0 4294836225)\n").ends_with("(fill broken over 0 0)\n"));
+    assert_eq!(print("(fill 0 0 4294836226)\n"), "(refused 11 2)\n");
+    let whole = print("(rect 0 0 65535 65535)\n");
+    assert!(whole.starts_with("(exact (max 4294836225 0 0 1) (min 4294836225 0 0 1))\n"));
+    assert_eq!(print("(rect 0 0 65536 65535)\n"), "(refused 6 2)\n");
 }
 
 #[test]

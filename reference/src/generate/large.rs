@@ -3,9 +3,6 @@
 //! The lengths of a heavy job are parts of the side; its shapes, tiles and levels
 //! are as many at every side. So the times of one job at two sides tell what the
 //! length of the side costs.
-//!
-//! Their fills are mostly what a tile can take for sure, so that a unit which is
-//! more careful at corners accepts them too and can be timed beside this one.
 
 mod bars;
 mod bounds;

@@ -2,7 +2,7 @@
 
 use super::{bare_job, grid_of_different_sides, scaled, with_dummies, with_most_tiles};
 use crate::fast;
-use crate::generate::corners::cautious_areas;
+use crate::generate::corners::{cautious_areas, tiles_at_corners};
 use crate::generate::kinds::drawn;
 use crate::generate::random::Random;
 use crate::job::{Job, LARGEST_SIDE, MOST_SHAPES};
@@ -39,27 +39,31 @@ fn with_gap(bare: Job, gap: u64, arrangement: Arrangement) -> Job {
 }
 
 /// So many fill lines surely fit in a file beside as many shapes as may stand.
-const FILLS: usize = 3500;
+const FILLS: usize = 3400;
 
-/// One square in each tile that has one for sure. Where these are too many for a
-/// file, those that stay without are spread over the layout.
+/// One square in each tile that has room for it, as far as these fit in a file;
+/// before all others where arcs cross a tile, since only these take long to measure.
 fn in_most_tiles(side: u64, gap: u64, arrangement: Arrangement) -> Job {
     let job = with_gap(with_most_tiles(side, 32), gap, arrangement);
-    let mut fills = cautious_areas(&job);
-    let sure: Vec<usize> = (0..fills.len()).filter(|&tile| fills[tile] > 0).collect();
-    fills.fill(0);
-    let count = sure.len().min(FILLS);
-    for number in 0..count {
-        fills[sure[number * sure.len() / count]] = 1;
+    let areas = fast::fillable_areas(&job);
+    let crossed = tiles_at_corners(&job, &areas);
+    let with_room = (0..areas.len()).filter(|&tile| areas[tile] > 0);
+    let mut fills = vec![0; areas.len()];
+    let mut count = 0;
+    for tile in crossed.into_iter().chain(with_room) {
+        if fills[tile] == 0 && count < FILLS {
+            fills[tile] = 1;
+            count += 1;
+        }
     }
     Job { fills, ..job }
 }
 
-/// The whole layout is one tile, and has a fill.
+/// The whole layout is one tile, and filled with all that it can take.
 fn in_one_tile(side: u64, gap: u64, arrangement: Arrangement) -> Job {
     let job = with_gap(bare_job(side, 1, 1), gap, arrangement);
     Job {
-        fills: cautious_areas(&job),
+        fills: fast::fillable_areas(&job),
         ..job
     }
 }
@@ -109,7 +113,7 @@ fn quarter_circle(size: u64) -> Vec<[u64; 4]> {
 
 /// What a gap as wide as the layout leaves lies in the corner opposite the circle,
 /// and many squares have a part in its edge. Only round corners leave anything
-/// there, so no amount is a sure one, and each tile is filled wholly.
+/// there. Each tile is filled wholly.
 fn around_a_circle(side: u64) -> Job {
     let gap = scaled(LARGEST_SIDE, side);
     let job = with_gap(with_most_tiles(side, 32), gap, quarter_circle);
