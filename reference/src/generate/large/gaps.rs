@@ -94,7 +94,8 @@ fn squares(size: u64, place: impl Fn(u64) -> [u64; 2]) -> Vec<[u64; 4]> {
 }
 
 /// Single squares in one row. What they bar is a band, and each of them has a part
-/// in both of its sides.
+/// in both of its sides. These are flat: at a short side of the layout they bend by
+/// less than a square, and the job is lighter for that too.
 fn middle_row(size: u64) -> Vec<[u64; 4]> {
     squares(size, |x| [x, size / 2])
 }
