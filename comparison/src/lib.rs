@@ -4,7 +4,7 @@ pub mod earlier;
 pub mod plain;
 pub mod timing;
 
-use reference::answer::{Reply, ANSWER_ROOM};
+use reference::answer::{Answer, Method, Reply, ANSWER_ROOM};
 
 /// File, its length, buffer and its length.
 type AnswerEntry = unsafe extern "C" fn(*const u8, usize, *mut u8, usize) -> u64;
@@ -90,11 +90,11 @@ pub fn answered(
     (answer(file, &mut out), out)
 }
 
-/// Holds both implementations to the same reply and the same bytes, for one
-/// job and one length of buffer.
-fn compare_with_room(file: &[u8], room: usize) -> Reply {
+/// Holds the proved library to the second implementation's reply and to all bytes
+/// of the buffer, for one job and one length of buffer.
+fn compare_with_room(file: &[u8], second: &Answer, room: usize) -> Reply {
     let proved = answered(|file, out| LINKED.answer(file, out), file, room);
-    let second = answered(reference::answer::answer, file, room);
+    let second = answered(|_, out| second.write(out), file, room);
     assert_eq!(proved, second, "room {room}: {}", shown(file));
     proved.0
 }
@@ -103,14 +103,15 @@ fn compare_with_room(file: &[u8], room: usize) -> Reply {
 /// second implementation writes only the front of an accepted job's buffer, so
 /// equal buffers are untouched everywhere else.
 pub fn compare(file: &[u8]) {
-    match compare_with_room(file, ANSWER_ROOM) {
+    let second = Answer::new(Method::Fast, file);
+    match compare_with_room(file, &second, ANSWER_ROOM) {
         Reply::Accepted(length) => {
             for room in [0, length - 1, length, length + 1] {
-                compare_with_room(file, room);
+                compare_with_room(file, &second, room);
             }
         }
         Reply::Refused { .. } => {
-            compare_with_room(file, 0);
+            compare_with_room(file, &second, 0);
         }
     }
 }

@@ -107,6 +107,7 @@ mod tests {
     use crate::{on_large_stack, LINKED};
     use reference::fast;
     use reference::generate::{large_jobs, small_job, Random};
+    use reference::job::LARGEST_SIDE;
 
     /// Holds both loops and the proved run to the second implementation.
     fn compare_runs(file: &[u8]) {
@@ -125,8 +126,8 @@ mod tests {
             for seed in 0..1000 {
                 compare_runs(&small_job(&mut Random::new(seed)));
             }
-            for large in large_jobs() {
-                compare_runs(&large.job);
+            for large in large_jobs(LARGEST_SIDE) {
+                compare_runs(&large.without_fills());
             }
         });
     }

@@ -8,6 +8,7 @@ use reference::generate::{
     COMPARED_LARGE_BOUNDED_SEEDS, COMPARED_LARGE_CORNER_SEEDS, COMPARED_LARGE_SEEDS,
     COMPARED_SEEDS,
 };
+use reference::job::LARGEST_SIDE;
 use std::ops::Range;
 
 /// Compares one job for each of consecutive seeds. The second implementation's
@@ -71,9 +72,11 @@ fn bounds_at_frequent_areas() {
 #[test]
 fn heaviest_jobs() {
     on_large_stack(|| {
-        for job in large_jobs() {
-            println!("{}", job.name);
-            compare(&job.job);
+        for side in [50_000, LARGEST_SIDE] {
+            for job in large_jobs(side) {
+                println!("{} of {side}", job.name);
+                compare(&job.job);
+            }
         }
     });
 }

@@ -5,7 +5,7 @@ use comparison::timing::in_turn;
 use comparison::{on_large_stack, plain, LINKED};
 use reference::fast;
 use reference::generate::{large_jobs, LargeJob};
-use reference::job::Job;
+use reference::job::{Job, LARGEST_SIDE};
 use std::collections::HashSet;
 
 const ROUNDS: usize = 9;
@@ -13,7 +13,7 @@ const ROUNDS: usize = 9;
 /// In the first a strip holds some of the shapes, so that summing strips
 /// would save time too; in the second nearly every strip holds them all, and
 /// nothing is saved but by carrying the sum along.
-const JOBS: [&str; 2] = ["different sides", "most starts"];
+const JOBS: [&str; 2] = ["different sides, W = N/8", "most starts"];
 
 /// How many lines across an axis have a side of a shape on them.
 fn lines_with_sides(job: &Job, axis: usize) -> usize {
@@ -54,7 +54,7 @@ fn assert_half_the_time(large: &LargeJob) {
 #[cfg_attr(debug_assertions, ignore = "a loop not optimized is no measure")]
 fn the_exact_run_takes_at_most_half_the_time_of_summing_all() {
     on_large_stack(|| {
-        let jobs = large_jobs();
+        let jobs = large_jobs(LARGEST_SIDE);
         for name in JOBS {
             let large = jobs.iter().find(|large| large.name == name);
             assert_half_the_time(large.expect("a job of that name"));

@@ -26,8 +26,8 @@ pub enum Reply {
     Refused { number: u32, line: u32 },
 }
 
-impl From<Refusal> for Reply {
-    fn from(Refusal { number, line }: Refusal) -> Reply {
+impl From<&Refusal> for Reply {
+    fn from(&Refusal { number, line }: &Refusal) -> Reply {
         Reply::Refused { number, line }
     }
 }
@@ -66,11 +66,6 @@ impl Method {
                 found.shown(job, |corners| fast::shapes(job, corners))
             }
         }
-    }
-
-    fn text(self, bytes: &[u8]) -> Result<String, Refusal> {
-        let job = self.read(bytes)?;
-        Ok(self.outcome(&job).to_string())
     }
 }
 
@@ -125,28 +120,38 @@ pub fn rounded(numerator: u64, denominator: u64) -> u64 {
     }
 }
 
-/// Answers a job into a lent buffer. Only an accepted job's answer is written,
-/// and nothing behind it.
-pub fn answer(job: &[u8], out: &mut [u8]) -> Reply {
-    answer_by(Method::Fast, job, out)
+/// What is to be said to a job: its answer or its refusal.
+pub struct Answer(Result<String, Refusal>);
+
+impl Answer {
+    pub fn new(method: Method, job: &[u8]) -> Answer {
+        let outcome = method.read(job).map(|job| method.outcome(&job));
+        Answer(outcome.map(|outcome| outcome.to_string()))
+    }
+
+    /// Writes it into a lent buffer. Only an accepted job's answer is written, and
+    /// nothing behind it.
+    pub fn write(&self, out: &mut [u8]) -> Reply {
+        let text = match &self.0 {
+            Ok(text) => text,
+            Err(refusal) => return refusal.into(),
+        };
+        match out.get_mut(..text.len()) {
+            Some(front) => front.copy_from_slice(text.as_bytes()),
+            None => return (&Refusal::new(Fault::ShortBuffer, 0)).into(),
+        }
+        Reply::Accepted(text.len())
+    }
 }
 
-/// [`answer`] by the named method.
-pub fn answer_by(method: Method, job: &[u8], out: &mut [u8]) -> Reply {
-    let text = match method.text(job) {
-        Ok(text) => text,
-        Err(refusal) => return refusal.into(),
-    };
-    match out.get_mut(..text.len()) {
-        Some(front) => front.copy_from_slice(text.as_bytes()),
-        None => return Refusal::new(Fault::ShortBuffer, 0).into(),
-    }
-    Reply::Accepted(text.len())
+/// Answers a job into a lent buffer.
+pub fn answer(job: &[u8], out: &mut [u8]) -> Reply {
+    Answer::new(Method::Fast, job).write(out)
 }
 
 /// What the program prints for a job: its answer or its refusal.
 pub fn printed(method: Method, job: &[u8]) -> String {
-    match method.text(job) {
+    match Answer::new(method, job).0 {
         Ok(text) => text,
         Err(Refusal { number, line }) => format!("(refused {number} {line})\n"),
     }

@@ -36,17 +36,17 @@ pub const COMPARED_FAULTY_SEEDS: Range<u64> = 2_000_000..2_005_000;
 /// Those of the damaged jobs.
 pub const COMPARED_DAMAGED_SEEDS: Range<u64> = 3_000_000..3_005_000;
 /// Those of the large random jobs.
-pub const COMPARED_LARGE_SEEDS: Range<u64> = 5_000_000..5_000_030;
+pub const COMPARED_LARGE_SEEDS: Range<u64> = 5_000_000..5_000_060;
 /// Those of the jobs with a full tile at a round corner, and of the same jobs with
 /// one square more in it.
 pub const COMPARED_CORNER_SEEDS: Range<u64> = 6_000_000..6_001_000;
 /// Those of such jobs at full size.
-pub const COMPARED_LARGE_CORNER_SEEDS: Range<u64> = 7_000_000..7_000_012;
+pub const COMPARED_LARGE_CORNER_SEEDS: Range<u64> = 7_000_000..7_000_024;
 
 /// Those of the jobs with bounds at or beside frequent areas.
 pub const COMPARED_BOUNDED_SEEDS: Range<u64> = 8_000_000..8_003_000;
 /// Those of such jobs at full size.
-pub const COMPARED_LARGE_BOUNDED_SEEDS: Range<u64> = 9_000_000..9_000_200;
+pub const COMPARED_LARGE_BOUNDED_SEEDS: Range<u64> = 9_000_200..9_000_400;
 
 /// Any small job: half of them valid, the others faulty or damaged.
 pub fn mixed_job(random: &mut Random) -> Vec<u8> {

@@ -7,9 +7,12 @@ pub(crate) const MOST_SHAPES: usize = 256;
 /// Most tiles along one side of the layout.
 pub(crate) const MOST_TILES: u64 = 64;
 /// Longest side of a layout.
-pub(crate) const LARGEST_SIDE: u64 = 65_535;
+pub const LARGEST_SIDE: u64 = 1_000_000;
+/// Greatest amount that a fill may ask for.
+pub(crate) const LARGEST_AMOUNT: u64 = 1_000_000_000_000;
 
-const MOST_DIGITS: usize = 10;
+/// Most digits of a number. The greatest amount has as many.
+const MOST_DIGITS: usize = 13;
 const MOST_HALVINGS: u64 = 4;
 
 /// The least and greatest value of each number of a form, in file order.
@@ -26,7 +29,7 @@ const TILE: (u64, u64) = (0, MOST_TILES - 1);
 pub(crate) const HEAD_RANGES: Ranges<8> =
     [SIDE, SIDE, (1, 64), GAP, BOUND, BOUND, (0, 1000), (1, 6)];
 pub(crate) const CORNER_RANGES: Ranges<4> = [CORNER; 4];
-pub(crate) const FILL_RANGES: Ranges<3> = [TILE, TILE, (1, LARGEST_SIDE * LARGEST_SIDE)];
+pub(crate) const FILL_RANGES: Ranges<3> = [TILE, TILE, (1, LARGEST_AMOUNT)];
 
 /// Where the metal of a shape comes from. Only the gap that fill leaves to it
 /// depends on that.

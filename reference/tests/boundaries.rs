@@ -3,9 +3,9 @@
 mod common;
 
 use common::printed_by_both;
-use reference::answer::{answer, answer_by, printed, Method, Reply, ANSWER_ROOM};
+use reference::answer::{answer, printed, Answer, Method, Reply, ANSWER_ROOM};
 use reference::generate::{boundary_jobs, cautious_areas, large_job, large_jobs, LargeJob, Random};
-use reference::job::{Job, Kind, Refusal};
+use reference::job::{Job, Kind, Refusal, LARGEST_SIDE};
 use reference::outcome::{
     End, Exact, Failure, Outcome, Positions, Quick, Shown, Side, Verdict, Window,
 };
@@ -121,7 +121,7 @@ fn assert_positions(cases: &[(&str, [u64; 3])]) {
 #[test]
 fn positions_that_are_all_alike() {
     for (layout, all) in [
-        ("most positions", 64_481 * 64_481),
+        ("most positions", 984_376 * 984_376),
         ("one position", 1),
         ("windows of one square", 64 * 64),
     ] {
@@ -146,16 +146,16 @@ fn positions_that_are_all_alike() {
 #[test]
 fn most_positions_are_as_named() {
     let sides =
-        (1..=64_u64).flat_map(|tiles| (1..=tiles).map(move |cut| (65_535 / tiles, tiles, cut)));
+        (1..=64_u64).flat_map(|tiles| (1..=tiles).map(move |cut| (1_000_000 / tiles, tiles, cut)));
     let on_an_axis = sides.map(|(tile, tiles, cut)| tile * (tiles - cut) + 1);
-    assert_eq!(on_an_axis.max(), Some(64_481));
+    assert_eq!(on_an_axis.max(), Some(984_376));
 }
 
 /// With one square more, the windows that have the metal but for it are one column.
 #[test]
 fn positions_one_square_off_a_bound() {
-    let all = 39_301 * 39_301;
-    let (across, down) = (13_101, 13_101);
+    let all = 600_001 * 600_001;
+    let (across, down) = (200_001, 200_001);
     let holding = across * down;
     assert_positions(&[
         ("a quarter of the one window less one square", [1, 0, 0]),
@@ -179,7 +179,7 @@ fn buffers_of_every_length() {
     for length in 0..text.len() + 20 {
         for method in [Method::Brute, Method::Fast] {
             let mut buffer = vec![b'#'; length];
-            let reply = answer_by(method, SMALL, &mut buffer);
+            let reply = Answer::new(method, SMALL).write(&mut buffer);
             if length < text.len() {
                 assert_eq!(
                     reply,
@@ -270,11 +270,15 @@ fn large_jobs_are_accepted() {
 }
 
 /// Made once, since the areas of some take a while.
-static LARGE_JOBS: LazyLock<Vec<LargeJob>> = LazyLock::new(large_jobs);
+static LARGE_JOBS: LazyLock<Vec<LargeJob>> = LazyLock::new(|| large_jobs(LARGEST_SIDE));
 
 /// One of the heaviest jobs, by its name.
 fn heaviest_job(name: &str) -> Job {
-    let large = LARGE_JOBS.iter().find(|large| large.name == name);
+    named(&LARGE_JOBS, name)
+}
+
+fn named(jobs: &[LargeJob], name: &str) -> Job {
+    let large = jobs.iter().find(|large| large.name == name);
     fast::read(&large.unwrap().job).unwrap()
 }
 
@@ -285,14 +289,23 @@ fn filled(job: &Job) -> usize {
 #[test]
 fn heaviest_jobs_are_as_heavy_as_can_be() {
     let read = heaviest_job;
-    let sides = read("different sides");
-    assert_eq!((sides.size, sides.shapes.len()), (65_535, 256));
+    let windows = [("N/64", 64), ("N/8", 8), ("N/2", 2), ("N", 1)];
+    let sides = windows.map(|(name, part)| {
+        let job = read(&format!("different sides, W = {name}"));
+        assert_eq!(
+            (job.size, part * job.window),
+            (1_000_000, 1_000_000),
+            "{name}"
+        );
+        job
+    });
     let starts = read("most starts");
     assert_eq!((starts.tiles(), starts.window % 16), (64, 0));
     let wide = read("wide windows");
     assert_eq!(4 * wide.window, wide.size);
-    for job in [&sides, &starts, &wide] {
+    for job in sides.iter().chain([&starts, &wide]) {
         let cover = fast::metal_cover(job);
+        assert_eq!(job.shapes.len(), 256);
         assert!(cover.column_cuts().len() >= 512 && cover.row_cuts().len() >= 512);
     }
     let tiles = read("most tiles");
@@ -307,7 +320,7 @@ fn heaviest_jobs_are_as_heavy_as_can_be() {
 /// Both gaps have a hand in what their tiles can take.
 #[test]
 fn heaviest_jobs_with_dummies_have_many_of_both_kinds() {
-    for (name, enough) in [("bars and dummies", 3500), ("gaps that differ", 2500)] {
+    for (name, enough) in [("bars and dummies", 3500), ("gaps that differ", 2200)] {
         let job = heaviest_job(name);
         let of_kind = |kind| job.shapes.iter().filter(|shape| shape.kind == kind).count();
         assert_eq!(Kind::BOTH.map(of_kind), [170, 86], "{name}");
@@ -326,35 +339,56 @@ fn heaviest_jobs_with_dummies_have_many_of_both_kinds() {
     assert_eq!(Method::Fast.outcome(&bars).verdict, Verdict::Safe);
 }
 
-/// Each has as many fills as fit in its file, or as there are tiles with room.
+/// A side at which the heaviest jobs take little time. All but the length of their
+/// numbers is the same at every side.
+const SMALLER_SIDE: u64 = 50_000;
+
+/// Each has as many fills as fit in its file, or as there are tiles with room, and
+/// so many tiles with more room than square corners would leave.
 #[test]
 fn heaviest_jobs_by_gap_have_many_fills_and_arcs() {
+    let smaller = large_jobs(SMALLER_SIDE);
     for (name, gap, fills, gaining) in [
-        ("gap of 0", 0, 3500, 0),
-        ("gap of 100", 100, 3500, 1100),
-        ("gap of 1,500", 1500, 3000, 3200),
-        ("gap of 8,000", 8000, 2400, 600),
-        ("gap of 65,535", 65_535, 690, 690),
-        ("single tile", 1500, 1, 1),
+        ("gap of 0", 0, 3400, 0),
+        ("gap of 1,000", 1000, 3400, 1100),
+        ("gap of 15,000", 15_000, 3400, 2200),
+        ("gap of 250,000", 250_000, 2100, 190),
+        ("gap of 1,000,000", 1_000_000, 690, 690),
+        ("gap of 1,000, one tile", 1000, 1, 1),
+        ("gap of 15,000, one tile", 15_000, 1, 1),
+        ("gap of 250,000, one tile", 250_000, 1, 1),
+        ("gap of 250,000, diagonal", 250_000, 1800, 800),
     ] {
-        let job = heaviest_job(name);
+        let large = LARGE_JOBS.iter().find(|large| large.name == name).unwrap();
+        let job = fast::read(&large.without_fills()).unwrap();
         assert_eq!((job.gap, job.shapes.len()), (gap, 256), "{name}");
-        assert!(filled(&job) >= fills, "{name}: {}", filled(&job));
+        let lines = large.job.split(|&byte| byte == b'\n');
+        let filled = lines.filter(|line| line.starts_with(b"(fill")).count();
+        assert!(filled >= fills, "{name}: {filled}");
+        // These take long at full size.
+        let jobs = match name {
+            "gap of 1,000,000" | "gap of 250,000, diagonal" => &smaller,
+            _ => &*LARGE_JOBS,
+        };
+        let job = named(jobs, name);
         let areas = fast::fillable_areas(&job);
         let pairs = areas.iter().zip(cautious_areas(&job));
         let gains = pairs.filter(|(area, cautious)| *area > cautious).count();
         assert!(gains >= gaining, "{name}: {gains}");
     }
-    assert_eq!(heaviest_job("single tile").tiles(), 1);
-    assert_eq!(heaviest_job("single tile").size, 65_535);
 }
 
 /// Without one of these shapes more would be left: other shapes do not bar all that
 /// it bars.
 #[test]
 fn heaviest_jobs_by_gap_need_many_of_their_shapes() {
-    for (name, least) in [("gap of 8,000", 13), ("gap of 65,535", 4)] {
-        let job = heaviest_job(name);
+    let jobs = large_jobs(SMALLER_SIDE);
+    for (name, least) in [
+        ("gap of 250,000", 16),
+        ("gap of 250,000, diagonal", 10),
+        ("gap of 1,000,000", 3),
+    ] {
+        let job = named(&jobs, name);
         let room = |job: &Job| fast::fillable_areas(job).iter().sum::<u64>();
         let with_all = room(&job);
         let is_needed = |place: &usize| {
@@ -376,7 +410,7 @@ fn heaviest_jobs_by_bounds_have_positions_at_them() {
     };
     // The windows that hold all of the rectangle are over the bound, by one square.
     let (one, job) = positions("one rectangle");
-    assert_eq!((job.size, job.shapes.len()), (65_535, 1));
+    assert_eq!((job.size, job.shapes.len()), (1_000_000, 1));
     let [x1, y1, x2, y2] = job.shapes[0].corners;
     let [width, height] = [x2 - x1, y2 - y1];
     assert_eq!(width * height, job.greatest_kept() + 1);
@@ -400,25 +434,6 @@ fn heaviest_jobs_by_bounds_have_positions_at_them() {
         assert_eq!(job.shapes.len(), 256, "{name}");
         for count in [found.under, found.within, found.over] {
             assert!(4 * count > job.positions(), "{name}: {found}");
-        }
-    }
-}
-
-/// A unit that is more careful at corners accepts all of them but one, in which
-/// only round corners leave any room.
-#[test]
-fn fills_of_the_heaviest_jobs_are_cautious() {
-    for LargeJob { name, job } in LARGE_JOBS.iter() {
-        let job = fast::read(job).unwrap();
-        let mut pairs = job.fills.iter().zip(cautious_areas(&job));
-        if *name == "gap of 65,535" {
-            assert_eq!(job.fills, fast::fillable_areas(&job), "{name}");
-            assert!(pairs.all(|(_, cautious)| cautious == 0), "{name}");
-        } else {
-            assert!(
-                pairs.all(|(amount, cautious)| *amount <= cautious),
-                "{name}"
-            );
         }
     }
 }

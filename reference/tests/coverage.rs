@@ -7,9 +7,11 @@ use counts::Counts;
 use reference::answer::{answer, Method, Reply, ANSWER_ROOM};
 use reference::fast;
 use reference::generate::{
-    boundary_jobs, job_with_fault, mixed_job, small_job, Random, COMPARED_SEEDS, SPOILABLE,
+    boundary_jobs, damaged_job, faulty_job, job_with_fault, large_job, mixed_job, small_job,
+    Random, COMPARED_DAMAGED_SEEDS, COMPARED_FAULTY_SEEDS, COMPARED_LARGE_SEEDS, COMPARED_SEEDS,
+    SPOILABLE,
 };
-use reference::job::Job;
+use reference::job::{Job, Refusal};
 use reference::outcome::{End, Exact, Outcome, Quick, Shown};
 use reference::sense::Sense;
 use verdicts::verdict_name;
@@ -282,4 +284,66 @@ fn boundary_jobs_reach_every_fault_of_the_file() {
     }
     let faults = (1..=12).map(|number| format!("fault {number}"));
     counts.require(1, faults.chain(["accepted".to_string()]));
+}
+
+/// The line that a file is refused for, if it is text, with the fault's number.
+fn refused_line(file: &[u8]) -> Option<(u32, String)> {
+    let Refusal { number, line } = fast::read(file).err()?;
+    let lines: Vec<&[u8]> = file.split(|&byte| byte == b'\n').collect();
+    let line = lines.get(line.checked_sub(1)? as usize)?;
+    Some((number, String::from_utf8(line.to_vec()).ok()?))
+}
+
+/// The numbers of a line as they are spelled.
+fn numbers(line: &str) -> impl Iterator<Item = &str> {
+    let parts = line.split(|character: char| !character.is_ascii_digit());
+    parts.filter(|part| !part.is_empty())
+}
+
+fn see_numbers(counts: &mut Counts, file: &[u8]) {
+    let Some((fault, line)) = refused_line(file) else {
+        return;
+    };
+    let longest = numbers(&line).map(str::len).max().unwrap_or(0);
+    counts.see(format!("fault {fault}, {longest} digits"));
+    for number in numbers(&line).filter(|number| number.ends_with("000001")) {
+        counts.see(format!("fault {fault}, {number}"));
+    }
+}
+
+/// Numbers one past their range, and of 13 and 14 digits.
+#[test]
+fn refused_jobs_have_numbers_beside_the_limits() {
+    let mut counts = Counts::default();
+    for seed in COMPARED_FAULTY_SEEDS {
+        see_numbers(&mut counts, &faulty_job(&mut Random::new(seed)));
+    }
+    counts.require(8, ["fault 3, 1000000000001".to_string()]);
+    let frequent = ["fault 3, 1000001", "fault 3, 13 digits"];
+    counts.require(100, frequent.map(String::from));
+    for seed in COMPARED_DAMAGED_SEEDS {
+        see_numbers(&mut counts, &damaged_job(&mut Random::new(seed)));
+    }
+    counts.require(25, ["fault 2, 14 digits".to_string()]);
+}
+
+/// Sides and gaps far beyond 16 bits, and areas beyond 32.
+#[test]
+fn large_jobs_have_large_numbers() {
+    let mut counts = Counts::default();
+    for seed in COMPARED_LARGE_SEEDS {
+        let file = large_job(&mut Random::new(seed));
+        let job = fast::read(&file).expect("large jobs are valid");
+        counts.see_if(job.size > 500_000, "size");
+        counts.see_if(job.window > 250_000, "window");
+        counts.see_if(job.gap.max(job.dummy_gap) >= 300_000, "gap");
+        counts.see_if(
+            job.fills.iter().any(|&amount| amount > u64::from(u32::MAX)),
+            "fill",
+        );
+        let max = Method::Fast.outcome(&job).exact.max.window;
+        counts.see_if(max.area > u64::from(u32::MAX), "area");
+    }
+    counts.require(15, ["size", "window", "area"].map(String::from));
+    counts.require(3, ["gap", "fill"].map(String::from));
 }

@@ -3,7 +3,7 @@
 mod common;
 
 use common::printed_by_both;
-use reference::answer::rounded;
+use reference::answer::{printed, rounded, Method};
 use reference::outcome::{End, Exact, Failure, Quick, Side, Verdict, Window};
 use reference::sense::Sense;
 use reference::{brute, fast};
@@ -204,7 +204,7 @@ fn refused(file: &str, number: u32, line: u32) {
 #[test]
 fn spelling() {
     for rect in [
-        "(rect 12345678901 0 1 1)",
+        "(rect 12345678901234 0 1 1)",
         "(rect 00 0 1 1)",
         "(rect 01 0 2 1)",
         "(rect +0 0 1 1)",
@@ -229,7 +229,7 @@ fn spelling() {
     ] {
         refused_after_head(&format!("{rect}\n(end)\n"), 2, 2);
     }
-    refused_after_head("(rect 9999999999 0 1 1)\n(end)\n", 3, 2);
+    refused_after_head("(rect 9999999999999 0 1 1)\n(end)\n", 3, 2);
     refused_after_head("(rect 0000000001 0 1 1)\n(end)\n", 2, 2);
 }
 
@@ -243,7 +243,7 @@ fn lowest_fault_of_a_line() {
     refused_after_head("(end)\n(fill 64 0 1)\n", 3, 3);
     refused_after_head("(end)\n(fill 63 0 1)\n", 4, 3);
     // A rectangle after a fill: the range, then the turn, then its corners.
-    refused_after_head("(fill 0 0 1)\n(rect 0 0 65536 1)\n", 3, 3);
+    refused_after_head("(fill 0 0 1)\n(rect 0 0 1000001 1)\n", 3, 3);
     refused_after_head("(fill 0 0 1)\n(rect 1 1 1 1)\n", 4, 3);
     // A fill of an absent tile or too large, before the head.
     refused("(fill 0 0 1)\n", 4, 1);
@@ -619,7 +619,7 @@ fn job_a_of_dummy(gaps: &str, bounds: &str) -> String {
 fn a_dummy_is_metal() {
     // In every one of these the dummy has the gap that the drawn square has in
     // job A, and no drawn metal is there to have the other.
-    for gaps in ["1", "1 1", "0 1", "65535 1"] {
+    for gaps in ["1", "1 1", "0 1", "1000000 1"] {
         let answer = printed_by_both(job_a_of_dummy(gaps, "0 5000").as_bytes());
         assert_eq!(answer, ANSWER_A, "{gaps}");
     }
@@ -705,8 +705,8 @@ fn a_gap_on_one_axis_is_enough() {
 /// a tile, and the other kind has the widest gap, but no shapes.
 fn takes_fill(word: &str, gap: u64, across: u64, down: u64) -> bool {
     let gaps = match word {
-        "rect" => format!("{gap} 65535"),
-        _ => format!("65535 {gap}"),
+        "rect" => format!("{gap} 1000000"),
+        _ => format!("1000000 {gap}"),
     };
     let head =
         format!("(job (size 18) (window 18) (cut 18) (gap {gaps}) (bounds 0 10000) (zoom 0 6))");
@@ -798,8 +798,8 @@ fn faults_of_a_dummy() {
     refused_after_head("(fill 0 0 1)\n(dummy 5 5 4 4)\n", 4, 3);
     refused_after_head("(end)\n(dummy 0 0 1 1)\n", 4, 3);
     // Its numbers, its corners, and what it overlaps or what overlaps it.
-    refused_after_head("(dummy 0 0 65536 1)\n", 3, 2);
-    refused_after_head("(fill 0 0 1)\n(dummy 0 0 65536 1)\n", 3, 3);
+    refused_after_head("(dummy 0 0 1000001 1)\n", 3, 2);
+    refused_after_head("(fill 0 0 1)\n(dummy 0 0 1000001 1)\n", 3, 3);
     refused_after_head("(dummy 4 4 4 5)\n", 6, 2);
     refused_after_head("(dummy 7 7 8 9)\n", 6, 2);
     refused_after_head("(rect 0 0 2 2)\n(dummy 1 1 3 3)\n", 9, 3);
@@ -814,10 +814,14 @@ fn faults_of_a_dummy() {
 #[test]
 fn gaps_of_a_head() {
     let head = |gap: &str| HEAD.replace("(gap 1)", gap);
-    for good in ["(gap 0)", "(gap 0 0)", "(gap 65535 0)", "(gap 0 65535)"] {
+    for good in ["(gap 0)", "(gap 0 0)", "(gap 1000000 0)", "(gap 0 1000000)"] {
         refused(&head(good), 12, 2);
     }
-    for outside in ["(gap 1 65536)", "(gap 65536 1)", "(gap 1 9999999999)"] {
+    for outside in [
+        "(gap 1 1000001)",
+        "(gap 1000001 1)",
+        "(gap 1 9999999999999)",
+    ] {
         refused(&head(outside), 3, 1);
         // Before disagreement, and in a second head before its turn.
         refused(&head(outside).replace("window 4", "window 9"), 3, 1);
@@ -832,8 +836,150 @@ fn gaps_of_a_head() {
     ] {
         refused(&head(misspelled), 2, 1);
     }
-    refused(&head("(gap 1 12345678901)"), 2, 1);
+    refused(&head("(gap 1 12345678901234)"), 2, 1);
     refused(&head("(gap 1 2)").replace("window 4", "window 9"), 5, 1);
     refused_after_head(&head("(gap 1 2)"), 4, 2);
     refused_after_head(&head("(gap 1 2)").replace("window 4", "window 9"), 4, 2);
+}
+
+#[test]
+fn numbers_have_up_to_13_digits() {
+    // For every number alike, whatever its range: 13 digits are a number, 14 none.
+    for (digits, fault) in [
+        ("12345678901", 3),
+        ("999999999999", 3),
+        ("1000000000000", 3),
+        ("9999999999999", 3),
+        ("10000000000000", 2),
+        ("12345678901234", 2),
+    ] {
+        for number in ["size 8", "window 4", "cut 2", "gap 1"] {
+            let (name, _) = number.split_once(' ').unwrap();
+            refused(&HEAD.replace(number, &format!("{name} {digits}")), fault, 1);
+        }
+        for (numbers, place) in [("0 5000", 0), ("0 5000", 1), ("0 6", 0), ("0 6", 1)] {
+            let mut pair: Vec<&str> = numbers.split(' ').collect();
+            pair[place] = digits;
+            refused(&HEAD.replace(numbers, &pair.join(" ")), fault, 1);
+        }
+        refused_after_head(&format!("(rect 0 0 1 {digits})\n"), fault, 2);
+        refused_after_head(&format!("(dummy {digits} 0 1 1)\n"), fault, 2);
+        refused_after_head(&format!("(fill {digits} 0 1)\n"), fault, 2);
+    }
+    // The greatest amount has 13 digits: it is in its range, but too much here.
+    refused_after_head("(fill 0 0 1000000000000)\n", 11, 2);
+    refused_after_head("(fill 0 0 1000000000001)\n", 3, 2);
+    refused_after_head("(fill 0 0 10000000000000)\n", 2, 2);
+}
+
+/// What the program prints for a layout of these sides with bounds 0 5000, these
+/// shapes and fills, which is too large to count squares.
+fn printed_large(size: u64, window: u64, cut: u64, lines: &str) -> String {
+    let file = format!(
+        "(job (size {size}) (window {window}) (cut {cut}) (gap 1000) (bounds 0 5000) (zoom 0 6))\n\
+         {lines}(end)\n"
+    );
+    printed(Method::Fast, file.as_bytes())
+}
+
+/// Job A magnified by 63,000, its fill as well. The window can be halved four times
+/// now, so that the exact level of the run for the least is the sixth; windows and
+/// verdict are as they were.
+#[test]
+fn job_a_at_504_000_a_side() {
+    let expected = "(exact (max 15876000000 63000 63000 1) (min 3969000000 0 0 1))\n\
+                    (zoom met (levels 2) (floor 15876000000 126000 126000 1) (ceiling 15876000000) (kept 0))\n\
+                    (zoommin exact (levels 6) (low 3969000000) (high 3969000000 0 0 1) (kept 0))\n\
+                    (density 2500)\n\
+                    (positions 0 63504504001 0)\n\
+                    (fill safe)\n";
+    let rect = "(rect 189000 189000 315000 315000)\n";
+    let fill = "(fill 0 0 7938000000)\n";
+    assert_eq!(
+        printed_large(504_000, 252_000, 2, &format!("{rect}{fill}")),
+        expected
+    );
+}
+
+#[test]
+fn the_largest_layout_can_be_filled_to_the_last_square() {
+    let fill =
+        |amount: &str| printed_large(1_000_000, 1_000_000, 1, &format!("(fill 0 0 {amount})\n"));
+    // Nothing is barred, so that all of 1,000,000 x 1,000,000 can be filled.
+    assert!(fill("1000000000000").ends_with("(fill broken over 0 0)\n"));
+    assert_eq!(fill("1000000000001"), "(refused 3 2)\n");
+    assert_eq!(fill("10000000000000"), "(refused 2 2)\n");
+    assert!(fill("12345678901").ends_with("(fill safe)\n"));
+    // A bound of 5000 is half of that.
+    assert!(fill("500000000001").ends_with("(fill broken over 0 0)\n"));
+    assert!(fill("500000000000").ends_with("(fill safe)\n"));
+    // A unit square with a gap of 1000 takes some of it away.
+    let square = "(rect 0 0 1 1)\n(fill 0 0 1000000000000)\n";
+    assert_eq!(
+        printed_large(1_000_000, 1_000_000, 1, square),
+        "(refused 11 3)\n"
+    );
+}
+
+/// An amount beyond the tile is one in its range: 65,535 x 65,535 and one more.
+#[test]
+fn a_layout_of_65_535_a_side() {
+    let print = |lines: &str| printed_large(65_535, 65_535, 1, lines);
+    assert!(print("(fill 0 0 4294836225)\n").ends_with("(fill broken over 0 0)\n"));
+    assert_eq!(print("(fill 0 0 4294836226)\n"), "(refused 11 2)\n");
+    let whole = print("(rect 0 0 65535 65535)\n");
+    assert!(whole.starts_with("(exact (max 4294836225 0 0 1) (min 4294836225 0 0 1))\n"));
+    assert_eq!(print("(rect 0 0 65536 65535)\n"), "(refused 6 2)\n");
+}
+
+#[test]
+fn sides_and_corners_up_to_1_000_000() {
+    let whole = "(rect 0 0 1000000 1000000)\n";
+    let answer = printed_large(1_000_000, 1_000_000, 1, whole);
+    assert!(answer.starts_with("(exact (max 1000000000000 0 0 1) (min 1000000000000 0 0 1))\n"));
+    assert!(answer.contains("\n(density 10000)\n"));
+    assert_eq!(
+        printed_large(1_000_001, 1_000_000, 1, ""),
+        "(refused 3 1)\n"
+    );
+    assert_eq!(
+        printed_large(1_000_000, 1_000_001, 1, ""),
+        "(refused 3 1)\n"
+    );
+    for (corners, fault) in [
+        ("0 0 1000001 1", 3),
+        ("0 0 1 1000001", 3),
+        ("1000001 0 1 1", 3),
+        ("0 1000001 1 1", 3),
+        ("1000000 0 1 1", 6),
+        ("0 1000000 1 1", 6),
+        ("0 0 65536 1", 6),
+    ] {
+        for word in ["rect", "dummy"] {
+            refused_after_head(&format!("({word} {corners})\n"), fault, 2);
+        }
+    }
+}
+
+/// At the first level the window in the corner has a square of 500,000 a side, and
+/// the bloated one a strip of 1,000 more: 2 thousandths, which an accuracy of 1
+/// just meets. One square more is too much.
+#[test]
+fn accuracy_at_the_widest_layout() {
+    let line = |zoom: &str, square: &str| {
+        let file = format!(
+            "(job (size 1000000) (window 500000) (cut 1) (gap 0) (bounds 0 10000) (zoom {zoom}))\n\
+             (rect 0 0 500000 500000)\n(rect 500000 0 501000 500000)\n{square}(end)\n"
+        );
+        let text = printed(Method::Fast, file.as_bytes());
+        text.lines().nth(1).unwrap().to_string()
+    };
+    let met = "(zoom met (levels 1) (floor 250000000000 0 0 1) (ceiling 250500000000) (kept 1))";
+    assert_eq!(line("1 6", ""), met);
+    assert_eq!(line("0 1", ""), met.replace("met", "stopped"));
+    let more =
+        "(zoom stopped (levels 1) (floor 250000000000 0 0 1) (ceiling 250500000001) (kept 1))";
+    let square = "(rect 999999 999999 1000000 1000000)\n";
+    assert_eq!(line("1 1", square), more);
+    assert_eq!(line("2 1", square), more.replace("stopped", "met"));
 }

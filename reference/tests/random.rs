@@ -11,7 +11,7 @@ use reference::fast;
 use reference::generate::{
     bytes_of, damaged_job, faulty_job, small_job, small_lines, Line, Random,
 };
-use reference::job::{Job, Kind, Shape};
+use reference::job::{Job, Kind, Shape, LARGEST_SIDE};
 use reference::outcome::{End, Failure, Outcome, Quick, Shown, Side, Verdict, Window};
 use reference::sense::Sense;
 use seeds::for_seeds;
@@ -278,7 +278,7 @@ fn without_dummies_their_gap_is_nothing() {
         }
         let printed = printed_lines(&old);
         assert!(!printed.starts_with("(refused"), "{printed}");
-        for dummy_gap in [0, 1, random.below(30), 65_535] {
+        for dummy_gap in [0, 1, random.below(30), LARGEST_SIDE] {
             let stated = with_gaps(old.clone(), |gap, _| (gap, Some(dummy_gap)));
             assert_eq!(printed_lines(&stated), printed, "dummy gap {dummy_gap}");
         }
@@ -375,7 +375,7 @@ fn magnified_jobs_have_as_much_room() {
 fn job_and_magnified(random: &mut Random) -> (Job, u64, Job) {
     let mut lines = small_lines(random);
     let small = brute::read(&bytes_of(&lines)).unwrap();
-    let factor = (65_535 / small.size - random.below(3)).saturating_sub(1) | 1;
+    let factor = (LARGEST_SIDE / small.size - random.below(3)).saturating_sub(1) | 1;
     for line in &mut lines {
         magnify(line, factor);
     }
@@ -390,7 +390,7 @@ fn magnify(line: &mut Line, factor: u64) {
             // A gap that would be out of range becomes the widest, which leaves
             // no less than itself would.
             for gap in [Some(gap), dummy_gap.as_mut()].into_iter().flatten() {
-                *gap = (*gap * factor).min(65_535);
+                *gap = (*gap * factor).min(LARGEST_SIDE);
             }
         }
         Line::Shape(shape) => shape.corners.iter_mut().for_each(|side| *side *= factor),

@@ -1,10 +1,10 @@
 //! What changed since an earlier state of the library: many jobs through it and
 //! through the linked one, and the number of lines that differ, by the word that
-//! they begin with. Jobs with a form that the earlier state did not know are
-//! counted apart, and so are jobs with a fill for which it found less room: no line
-//! of theirs can be compared. Lines of a word that its answers did not have are new
-//! and counted apart as well. The argument names the earlier state, as for the
-//! benchmark.
+//! they begin with. Jobs with a form or a number that the earlier state refused as
+//! misspelled or out of range are counted apart, and so are jobs with a fill for
+//! which it found less room: no line of theirs can be compared. All that it accepted
+//! is. Lines of a word that its answers did not have are new and counted apart as
+//! well. The argument names the earlier state, as for the benchmark.
 
 use comparison::earlier::{self, difference, word_of, Difference};
 use comparison::{on_large_stack, LINKED};
@@ -12,6 +12,7 @@ use reference::generate::{
     boundary_jobs, bounded_job, corner_job, damaged_job, faulty_job, large_bounded_job, large_job,
     large_jobs, small_job, Random,
 };
+use reference::job::LARGEST_SIDE;
 use std::collections::BTreeMap;
 use std::process::ExitCode;
 
@@ -28,13 +29,17 @@ const KINDS: [Kind; 7] = [
     (200, large_bounded_job),
 ];
 
+/// The sides of the heaviest jobs: an earlier state need not know the longest.
+const SIDES: [u64; 3] = [50_000, 65_535, LARGEST_SIDE];
+
 /// The jobs at the limits, the heaviest ones, and random ones of every kind.
 fn jobs() -> impl Iterator<Item = Vec<u8>> {
     let random = KINDS
         .into_iter()
         .flat_map(|(count, make)| (0..count).map(move |seed| make(&mut Random::new(seed))));
     let limits = boundary_jobs().into_iter().map(|case| case.job);
-    let heaviest = large_jobs().into_iter().map(|large| large.job);
+    let heaviest = SIDES.into_iter().flat_map(large_jobs);
+    let heaviest = heaviest.map(|large| large.job);
     limits.chain(heaviest).chain(random)
 }
 
@@ -54,13 +59,15 @@ impl Lines {
     }
 }
 
-/// How many jobs were answered, how many of them have a form that is new, how many
-/// a fill that there is room for now, how many were answered alike in all lines that
-/// there were before, how many lines of the others changed, and how many are new.
+/// How many jobs were answered, how many of them have a form or a number of digits
+/// that is new, how many a number that is in its range now, how many a fill that
+/// there is room for now, how many were answered alike in all lines that there were
+/// before, how many lines of the others changed, and how many are new.
 #[derive(Default)]
 struct Changes {
     jobs: u64,
     newly_spelled: u64,
+    newly_in_range: u64,
     newly_fillable: u64,
     alike: u64,
     changed: Lines,
@@ -70,13 +77,15 @@ struct Changes {
 impl Changes {
     fn see(&mut self, now: &str, before: &str) {
         self.jobs += 1;
-        if gets_past(2, now, before) {
-            self.newly_spelled += 1;
-            return;
-        }
-        if gets_past(11, now, before) {
-            self.newly_fillable += 1;
-            return;
+        for (fault, count) in [
+            (2, &mut self.newly_spelled),
+            (3, &mut self.newly_in_range),
+            (11, &mut self.newly_fillable),
+        ] {
+            if gets_past(fault, now, before) {
+                *count += 1;
+                return;
+            }
         }
         let Difference { changed, new } = difference(now, before);
         self.alike += u64::from(changed.is_empty());
@@ -121,14 +130,15 @@ fn main() -> ExitCode {
         let Changes {
             jobs,
             newly_spelled,
+            newly_in_range,
             newly_fillable,
             alike,
             changed,
             new,
         } = changes;
         println!(
-            "{jobs} jobs, {newly_spelled} newly spelled, {newly_fillable} newly fillable, \
-             {alike} answered alike"
+            "{jobs} jobs, {newly_spelled} newly spelled, {newly_in_range} newly in range, \
+             {newly_fillable} newly fillable, {alike} answered alike"
         );
         changed.print("changed");
         new.print("are new");

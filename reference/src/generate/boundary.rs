@@ -2,6 +2,7 @@
 
 mod corners;
 mod gaps;
+mod numbers;
 mod positions;
 mod shapes;
 mod spellings;
@@ -23,6 +24,7 @@ pub fn boundary_jobs() -> Vec<BoundaryJob> {
         file_lengths(),
         shapes::counts(),
         shapes::beyond_the_last(),
+        numbers::at_their_limits(),
         head_limits(),
         second_heads(),
         spellings::of_heads(),
@@ -31,7 +33,6 @@ pub fn boundary_jobs() -> Vec<BoundaryJob> {
         shapes::alone(),
         shapes::out_of_turn(),
         Kind::BOTH.into_iter().flat_map(fill_limits).collect(),
-        greatest_amounts(),
         gaps::decided_by_either(),
         gaps::wide(),
         corners::single_squares(),
@@ -98,34 +99,36 @@ fn file_lengths() -> Vec<BoundaryJob> {
     ]
 }
 
-const GOOD_HEADS: [[u64; 8]; 11] = [
+const GOOD_HEADS: [[u64; 8]; 13] = [
     [8, 4, 2, 1, 0, 5000, 0, 6],
     [8, 4, 2, 1, 0, 5000, 1000, 6],
     [8, 4, 2, 1, 0, 5000, 0, 1],
     [8, 8, 2, 1, 0, 5000, 0, 6],
     [8, 4, 2, 0, 5000, 5000, 0, 6],
-    [8, 4, 2, 65_535, 10_000, 10_000, 0, 6],
+    [8, 4, 2, 1_000_000, 10_000, 10_000, 0, 6],
     [64, 1, 1, 0, 0, 0, 0, 6],
     [64, 64, 64, 0, 0, 0, 0, 6],
-    [65_472, 65_472, 64, 0, 0, 0, 0, 6],
-    [65_535, 65_535, 1, 0, 0, 0, 0, 6],
+    [65_535, 65_535, 1, 65_535, 0, 0, 0, 6],
+    [65_536, 65_536, 64, 65_536, 0, 0, 0, 6],
+    [1_000_000, 1_000_000, 64, 0, 0, 0, 0, 6],
+    [1_000_000, 1_000_000, 1, 0, 0, 0, 0, 6],
     [1, 1, 1, 0, 0, 0, 0, 1],
 ];
 
 const HEADS_OUT_OF_RANGE: [[u64; 8]; 13] = [
     [0, 1, 1, 1, 0, 5000, 0, 6],
     [8, 0, 2, 1, 0, 5000, 0, 6],
-    [65_536, 4, 2, 1, 0, 5000, 0, 6],
-    [8, 65_536, 2, 1, 0, 5000, 0, 6],
+    [1_000_001, 4, 2, 1, 0, 5000, 0, 6],
+    [8, 1_000_001, 2, 1, 0, 5000, 0, 6],
     [8, 4, 0, 1, 0, 5000, 0, 6],
     [65, 65, 65, 1, 0, 5000, 0, 6],
-    [8, 4, 2, 65_536, 0, 5000, 0, 6],
+    [8, 4, 2, 1_000_001, 0, 5000, 0, 6],
     [8, 4, 2, 1, 10_001, 10_001, 0, 6],
     [8, 4, 2, 1, 0, 10_001, 0, 6],
     [8, 4, 2, 1, 0, 5000, 1001, 6],
     [8, 4, 2, 1, 0, 5000, 0, 0],
     [8, 4, 2, 1, 0, 5000, 0, 7],
-    [9_999_999_999, 4, 2, 1, 0, 5000, 0, 6],
+    [9_999_999_999_999, 4, 2, 1, 0, 5000, 0, 6],
 ];
 
 const HEADS_THAT_DISAGREE: [[u64; 8]; 7] = [
@@ -139,9 +142,9 @@ const HEADS_THAT_DISAGREE: [[u64; 8]; 7] = [
 ];
 
 /// Dummy gaps that a head may state, or none.
-const GOOD_DUMMY_GAPS: [Option<u64>; 4] = [None, Some(0), Some(1), Some(65_535)];
+const GOOD_DUMMY_GAPS: [Option<u64>; 4] = [None, Some(0), Some(1), Some(1_000_000)];
 
-const DUMMY_GAPS_OUT_OF_RANGE: [Option<u64>; 2] = [Some(65_536), Some(9_999_999_999)];
+const DUMMY_GAPS_OUT_OF_RANGE: [Option<u64>; 2] = [Some(1_000_001), Some(9_999_999_999_999)];
 
 /// Where a number is out of its range, it does not matter whether the head agrees.
 fn head_limits() -> Vec<BoundaryJob> {
@@ -213,20 +216,6 @@ fn fill_limits(kind: Kind) -> Vec<BoundaryJob> {
     ]
 }
 
-fn greatest_amounts() -> Vec<BoundaryJob> {
-    let largest = |amount| {
-        bytes_of(&[
-            Line::Head([65_535, 65_535, 1, 0, 0, 10_000, 0, 6], None),
-            Line::Fill([0, 0, amount]),
-            Line::End,
-        ])
-    };
-    vec![
-        accepted("the greatest amount", largest(4_294_836_225)),
-        refused("beyond it", largest(4_294_836_226), 3, 2),
-    ]
-}
-
 /// Metal of this width and height from a corner on, and with its last row one square
 /// short, and one square long; each with what it is called.
 fn one_square_off([x, y]: [u64; 2], [width, height]: [u64; 2]) -> [(&'static str, [Line; 2]); 3] {
@@ -249,7 +238,7 @@ fn one_square_off([x, y]: [u64; 2], [width, height]: [u64; 2]) -> [(&'static str
 /// multiple of 8: 312.5 where a 32nd of it is covered and 937.5 where three are;
 /// each also with one square less, and one more.
 fn halves_of_a_wide_window() -> Vec<BoundaryJob> {
-    let eighth = 8191;
+    let eighth = 125_000;
     let head = Line::Head([8 * eighth, 8 * eighth, 1, 0, 0, 10_000, 0, 6], None);
     let around = |density: &'static str, sides: [u64; 2]| {
         one_square_off([0, 0], sides)

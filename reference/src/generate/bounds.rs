@@ -83,7 +83,7 @@ fn small_bare_job(random: &mut Random) -> Job {
 fn large_bare_job(random: &mut Random) -> Job {
     if random.one_in(4) {
         let cut = random.pick(&[20, 40]);
-        return bare_job(random, LARGEST_SIDE / 51, 51, cut);
+        return bare_job(random, LARGEST_SIDE / 50, 50, cut);
     }
     let tiles = random.between(2, MOST_TILES);
     let longest = LARGEST_SIDE / tiles;

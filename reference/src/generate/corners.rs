@@ -71,7 +71,7 @@ fn large_job(random: &mut Random) -> Job {
     let tiles = random.between(1, 32).max(random.between(1, 32));
     let longest = LARGEST_SIDE / tiles;
     let tile = longest - random.below(longest / 8);
-    let widest = random.pick(&[20, 300, 3000, 10_000, 40_000, GAP.1]);
+    let widest = random.pick(&[20, 1000, 15_000, 100_000, 400_000, GAP.1]);
     sparse_job(random, tile, tiles, widest)
 }
 

@@ -87,10 +87,25 @@ fn spoil_a_line_end(random: &mut Random, file: &mut Vec<u8>) {
     }
 }
 
+/// What may be put before a digit. A single digit becomes 65535 or 65536, or one
+/// near the longest side; with the last two it has 13 and 14 digits.
+const BEFORE_DIGITS: [&str; 10] = [
+    "0",
+    "00",
+    "-",
+    "+",
+    " ",
+    "1",
+    "6553",
+    "100000",
+    "999999999999",
+    "1234567890123",
+];
+
 /// Puts digits or signs before a digit.
 fn spoil_a_number(random: &mut Random, file: &mut Vec<u8>) {
     if let Some(digit) = pick_place(random, file, |rest| rest[0].is_ascii_digit()) {
-        let before = random.pick(&["0", "00", "-", "+", " ", "1", "12345678901", "9999999999"]);
+        let before = random.pick(&BEFORE_DIGITS);
         file.splice(digit..digit, before.bytes());
     }
 }
@@ -104,14 +119,14 @@ const EXCHANGES: &[(&str, &[&str])] = &[
     ),
     (
         "(gap ",
-        &["(gap 0 ", "(gap 1 ", "(gap 65536 ", "(gap  ", "(gap 1 2 "],
+        &["(gap 0 ", "(gap 1 ", "(gap 1000001 ", "(gap  ", "(gap 1 2 "],
     ),
     (
         ") (bounds",
         &[
             " 0) (bounds",
             " 2) (bounds",
-            " 65536) (bounds",
+            " 1000001) (bounds",
             " ) (bounds",
         ],
     ),

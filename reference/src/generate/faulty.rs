@@ -99,7 +99,7 @@ fn leave_one<const K: usize>(random: &mut Random, numbers: &mut [u64; K], ranges
 
 fn outside(random: &mut Random, (least, greatest): (u64, u64)) -> u64 {
     let below = least.checked_sub(1).unwrap_or(greatest + 1);
-    random.pick(&[below, greatest + 1, greatest + 1, 9_999_999_999])
+    random.pick(&[below, greatest + 1, greatest + 1, 9_999_999_999_999])
 }
 
 /// Moves, repeats or adds a line where it has no turn, or just elsewhere.

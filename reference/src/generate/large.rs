@@ -1,17 +1,23 @@
-//! The heaviest legal jobs, and random ones of their size.
+//! The heaviest legal jobs, at any side of the layout, and random ones of full size.
 //!
-//! Their fills are mostly what a tile can take for sure, so that a unit which is
-//! more careful at corners accepts them too and can be timed beside this one.
+//! The lengths of a heavy job are parts of the side; its shapes, tiles and levels
+//! are as many at every side. So the times of one job at two sides tell what the
+//! length of the side costs.
 
+mod bars;
 mod bounds;
 mod gaps;
+mod random_job;
+
+pub(super) use random_job::large_fills;
+pub use random_job::large_job;
 
 use super::corners::cautious_areas;
-use super::kinds::{drawn, of_random_kinds};
+use super::kinds::drawn;
 use super::line::{bytes_of, lines_of, Line};
 use super::random::Random;
 use crate::fast;
-use crate::job::{Job, Kind, LARGEST_FILE, LARGEST_SIDE, MOST_SHAPES, MOST_TILES};
+use crate::job::{Job, Kind, LARGEST_FILE, LARGEST_SIDE, MOST_TILES};
 
 /// A named job of full size.
 pub struct LargeJob {
@@ -31,52 +37,50 @@ impl LargeJob {
     }
 
     /// The job without its fill lines, and with bounds that about a third of the
-    /// positions are under and a third over where areas differ, so that many areas must be told from a bound.
+    /// positions are under and a third over where areas differ, so that many areas
+    /// must be told from a bound.
     pub fn with_bounds_among_areas(&self) -> Vec<u8> {
         let job = fast::read(&self.without_fills()).expect("large jobs are valid");
         within_limit(&bounds::with_bounds_among_areas(job))
     }
 }
 
-/// One job for each way of being heavy.
-pub fn large_jobs() -> Vec<LargeJob> {
-    let named = |name, job: Job| LargeJob {
+/// One job for each way of being heavy, in a layout of this side or little less: a
+/// whole number of tiles must fit. Lengths that have a name are those at the
+/// longest side.
+pub fn large_jobs(side: u64) -> Vec<LargeJob> {
+    let jobs = [
+        ("different sides, W = N/64", different_sides(side, 1)),
+        ("different sides, W = N/8", different_sides(side, 8)),
+        ("different sides, W = N/2", different_sides(side, 32)),
+        ("different sides, W = N", different_sides(side, 64)),
+        ("most starts", bars::most_starts(side)),
+        ("soon met", bars::soon_met(side)),
+        ("windows alike", bars::windows_alike(side)),
+        ("wide windows", bars::wide_windows(side)),
+        ("bars and fills", bars::bars_and_fills(side)),
+        ("bars and dummies", bars::bars_and_dummies(side)),
+        ("most tiles", most_tiles(side)),
+        ("ragged starts", ragged_starts(side)),
+        ("single squares", single_squares(side)),
+        ("covered wholly", covered_wholly(side)),
+        ("filled wholly", filled_wholly(side)),
+    ];
+    let jobs = jobs
+        .into_iter()
+        .chain(gaps::jobs(side))
+        .chain(bounds::jobs(side));
+    let named = |(name, job): (&'static str, Job)| LargeJob {
         name,
         job: within_limit(&job),
     };
-    vec![
-        named("different sides", different_sides()),
-        named("most starts", most_starts()),
-        named("soon met", soon_met()),
-        named("windows alike", windows_alike()),
-        named("wide windows", wide_windows()),
-        named("bars and fills", bars_and_fills()),
-        named("most tiles", most_tiles()),
-        named("wide gaps", wide_gaps()),
-        named("ragged starts", ragged_starts()),
-        named("single squares", single_squares()),
-        named("covered wholly", covered_wholly()),
-        named("filled wholly", filled_wholly()),
-        named("bars and dummies", bars_and_dummies()),
-        named("gaps that differ", gaps_that_differ()),
-        named("gap of 0", gaps::around_different_sides(0)),
-        named("gap of 100", gaps::around_different_sides(100)),
-        named("gap of 1,500", gaps::around_short_sides(1500)),
-        named("gap of 8,000", gaps::around_a_diagonal(8000)),
-        named("gap of 65,535", gaps::around_a_circle(65_535)),
-        named("single tile", gaps::in_a_single_tile(1500)),
-        named("one rectangle", bounds::one_rectangle()),
-        named("bars at a bound", bounds::bars_at_a_bound()),
-        named("bounds under bars", bounds::bounds_under_bars()),
-        named(
-            "bounds, small windows",
-            bounds::bounds_among_different_sides(2),
-        ),
-        named(
-            "bounds, wide windows",
-            bounds::bounds_among_different_sides(16),
-        ),
-    ]
+    jobs.map(named).collect()
+}
+
+/// A length of the longest layout, as long a part of one of this side. Some length
+/// stays some.
+fn scaled(length: u64, side: u64) -> u64 {
+    (length * side).div_ceil(LARGEST_SIDE)
 }
 
 /// A job without shapes and fills, bounds that hold always, and the quick
@@ -93,12 +97,17 @@ fn bare_job(tile: u64, tiles: u64, cut: u64) -> Job {
     }
 }
 
+/// As many tiles as there may be, as wide as this side lets them be.
+fn with_most_tiles(side: u64, cut: u64) -> Job {
+    bare_job(side / MOST_TILES, MOST_TILES, cut)
+}
+
 /// The job's file, its last fills left out as far as it would be too long.
 pub(super) fn within_limit(job: &Job) -> Vec<u8> {
     let mut lines = lines_of(job);
     let mut bytes = bytes_of(&lines);
     while bytes.len() > LARGEST_FILE {
-        let excess = (bytes.len() - LARGEST_FILE) / 24 + 1;
+        let excess = (bytes.len() - LARGEST_FILE) / 27 + 1;
         lines.truncate(lines.len() - 1 - excess);
         lines.push(Line::End);
         bytes = bytes_of(&lines);
@@ -129,95 +138,28 @@ pub(super) fn grid_of_different_sides(
     boxes
 }
 
-/// Every side of 256 shapes gives candidates of its own to the exact run.
-fn different_sides() -> Job {
+/// Every side of 256 shapes gives candidates of its own to the exact run, under
+/// windows of so many of the 64 tiles across.
+fn different_sides(side: u64, cut: u64) -> Job {
     let mut random = Random::new(1);
-    let mut job = bare_job(1285, 51, 16);
-    (job.gap, job.dummy_gap) = (100, 100);
+    let mut job = with_most_tiles(side, cut);
+    job.gap = scaled(1500, side);
+    job.dummy_gap = job.gap;
     job.shapes = drawn(grid_of_different_sides(&mut random, job.size, 16));
     job.fills = cautious_areas(&job);
     job
 }
 
-/// Upright bars side by side, as many as may stand. `bar` gives each by its
-/// number, the left end of its room and the layout's size.
-fn barred(bare: Job, bar: impl Fn(u64, u64, u64) -> [u64; 4]) -> Job {
-    let bars = MOST_SHAPES as u64;
-    let room = bare.size / bars;
-    let boxes = (0..bars).map(|k| bar(k, k * room, bare.size)).collect();
-    Job {
-        shapes: drawn(boxes),
-        ..bare
-    }
-}
-
-/// A bar of about this width over nearly the full height. Those of different
-/// numbers and rooms have no two sides on one line.
-fn different_bar(width: u64) -> impl Fn(u64, u64, u64) -> [u64; 4] {
-    move |k, room, size| {
-        let left = room + 50 + k % 3;
-        [left, k, left + width + k % 2, size - k]
-    }
-}
-
-/// 64 windows across and the window side a multiple of 16, so that there are
-/// 1009 starts on an axis at the last level.
-fn small_windows() -> Job {
-    bare_job(1008, MOST_TILES, 1)
-}
-
-/// Nearly all starts are kept by the run for the greatest, because the bars
-/// make windows nearly alike. All sides differ here too.
-fn most_starts() -> Job {
-    barred(small_windows(), different_bar(100))
-}
-
-/// The same bars, for an accuracy that level 1 meets: the other levels and the
-/// exact search are not needed. The run for the least needs one level more.
-fn soon_met() -> Job {
-    Job {
-        accuracy: 1000,
-        ..most_starts()
-    }
-}
-
-/// The run for the least keeps every start of every level, and that for the
-/// greatest all but one. Bars that grow shorter towards one side have a poorest
-/// corner, and many a shrunk window has more metal than that; these are of
-/// nearly one length, and wide.
-fn windows_alike() -> Job {
-    barred(small_windows(), |k, room, size| {
-        let (left, inset) = (room + k % 3, k % 16);
-        [left, inset, left + 240 + k % 5, size - inset]
-    })
-}
-
-/// The bars of most starts under windows a quarter of the layout across: each
-/// holds 64 of them, and nearly every strip holds them all.
-fn wide_windows() -> Job {
-    barred(bare_job(1023, MOST_TILES, 16), different_bar(100))
-}
-
-/// The heaviest job known: small windows under bars, and as many fills as the
-/// file has room for, all in tiles that bars cross. The bars are thin, so that the
-/// fill is safe and every tile start is judged. Each height is that of two bars,
-/// which leaves them so much alike that the run for the least passes no start over.
-fn bars_and_fills() -> Job {
-    let thin = different_bar(1);
-    let mut job = barred(small_windows(), |k, room, size| thin(k % 128, room, size));
-    job.fills.fill(7);
-    job
-}
-
 /// 4096 tiles, as many of them filled as the file has room for.
-fn most_tiles() -> Job {
+fn most_tiles(side: u64) -> Job {
     let mut random = Random::new(3);
-    let mut job = bare_job(1023, MOST_TILES, 32);
-    (job.gap, job.dummy_gap) = (20, 20);
+    let mut job = with_most_tiles(side, 32);
+    job.gap = scaled(300, side);
+    job.dummy_gap = job.gap;
     job.lower = 1;
     let mut boxes = grid_of_different_sides(&mut random, job.size, 10);
     for [x1, _, x2, _] in &mut boxes {
-        *x2 = *x1 + 500;
+        *x2 = *x1 + scaled(7600, side);
     }
     job.shapes = drawn(boxes);
     let sure = cautious_areas(&job);
@@ -225,38 +167,19 @@ fn most_tiles() -> Job {
     job
 }
 
-/// The boxes with sides of 300 at most.
-fn narrowed(random: &mut Random, mut boxes: Vec<[u64; 4]>) -> Vec<[u64; 4]> {
-    for [x1, y1, x2, y2] in &mut boxes {
-        *x2 = *x1 + 1 + random.below(300);
-        *y2 = *y1 + 1 + random.below(300);
-    }
-    boxes
-}
-
-/// Barred ground around each shape, much wider than itself.
-fn wide_gaps() -> Job {
-    let mut random = Random::new(4);
-    let mut job = bare_job(1023, MOST_TILES, 64);
-    (job.gap, job.dummy_gap) = (1200, 1200);
-    let boxes = grid_of_different_sides(&mut random, job.size, 16);
-    job.shapes = drawn(narrowed(&mut random, boxes));
-    job.fills = cautious_areas(&job);
-    job
-}
-
 /// The last position is a start at no level.
-fn ragged_starts() -> Job {
+fn ragged_starts(side: u64) -> Job {
     let mut random = Random::new(5);
-    let mut job = bare_job(1023, MOST_TILES, 48);
+    let mut job = with_most_tiles(side, 48);
     job.shapes = drawn(grid_of_different_sides(&mut random, job.size, 16));
     job.accuracy = 1;
     job
 }
 
-fn single_squares() -> Job {
+/// Shapes that stay single squares at every side.
+fn single_squares(side: u64) -> Job {
     let mut random = Random::new(6);
-    let mut job = bare_job(3855, 17, 8);
+    let mut job = bare_job(side / 17, 17, 8);
     let mut boxes = grid_of_different_sides(&mut random, job.size, 16);
     for [x1, y1, x2, y2] in &mut boxes {
         (*x2, *y2) = (*x1 + 1, *y1 + 1);
@@ -266,16 +189,17 @@ fn single_squares() -> Job {
     job
 }
 
-fn covered_wholly() -> Job {
-    let mut job = bare_job(1285, 51, 51);
-    job.shapes = drawn(vec![[0, 0, LARGEST_SIDE, LARGEST_SIDE]]);
+/// As much metal and as many tiles as there can be, under one window.
+fn covered_wholly(side: u64) -> Job {
+    let mut job = with_most_tiles(side, MOST_TILES);
+    job.shapes = drawn(vec![[0, 0, job.size, job.size]]);
     job.lower = 10_000;
     job
 }
 
-fn filled_wholly() -> Job {
-    let mut job = bare_job(LARGEST_SIDE, 1, 1);
-    job.fills = vec![LARGEST_SIDE * LARGEST_SIDE];
+fn filled_wholly(side: u64) -> Job {
+    let mut job = bare_job(side, 1, 1);
+    job.fills = vec![side * side];
     job
 }
 
@@ -290,81 +214,4 @@ fn with_dummies(job: Job, gap: u64, dummy_gap: u64) -> Job {
         shapes,
         ..job
     }
-}
-
-/// The heaviest job with dummies among its bars. All bars leave room for the
-/// fill between them.
-fn bars_and_dummies() -> Job {
-    with_dummies(bars_and_fills(), 20, 60)
-}
-
-/// Wide gaps to drawn metal and narrower ones to dummies.
-fn gaps_that_differ() -> Job {
-    let mut job = with_dummies(wide_gaps(), 1200, 400);
-    job.fills = cautious_areas(&job);
-    job
-}
-
-/// A random valid job of large numbers.
-pub fn large_job(random: &mut Random) -> Vec<u8> {
-    let tiles = random.between(1, MOST_TILES);
-    let cut = random.between(1, tiles);
-    let longest = LARGEST_SIDE / tiles;
-    let mut tile = random.between(longest / 2, longest);
-    if random.one_in(2) {
-        tile -= tile % 16;
-    }
-    let mut job = bare_job(tile, tiles, cut);
-    let gaps = [0, 1, 10, 100, 1000, 20_000];
-    job.gap = random.pick(&gaps);
-    job.dummy_gap = if random.one_in(2) {
-        job.gap
-    } else {
-        random.pick(&gaps)
-    };
-    job.accuracy = random.pick(&[0, 0, 1, 10, 100, 1000]);
-    job.levels = random.between(1, 6);
-    job.lower = random.below(3000);
-    job.upper = random.between(job.lower, 10_000);
-    let boxes = large_boxes(random, job.size);
-    job.shapes = of_random_kinds(random, boxes);
-    job.fills = large_fills(random, &fast::fillable_areas(&job));
-    within_limit(&job)
-}
-
-/// An amount for some of the tiles, often all that the tile can take.
-pub(super) fn large_fills(random: &mut Random, fillable: &[u64]) -> Vec<u64> {
-    let share = random.pick(&[0, 10, 50, 100]);
-    let mut amount = |&most: &u64| {
-        if !random.percent(share) {
-            0
-        } else if random.one_in(2) {
-            most
-        } else {
-            random.below(most + 1)
-        }
-    };
-    fillable.iter().map(&mut amount).collect()
-}
-
-/// Boxes for shapes, no two of which overlap.
-fn large_boxes(random: &mut Random, size: u64) -> Vec<[u64; 4]> {
-    let across = random.between(1, 16);
-    let mut boxes = match random.below(3) {
-        0 => touching_grid(size, across),
-        _ => grid_of_different_sides(random, size, across),
-    };
-    let share = random.pick(&[10, 60, 100]);
-    boxes.retain(|_| random.percent(share));
-    random.shuffle(&mut boxes);
-    boxes
-}
-
-fn touching_grid(size: u64, across: u64) -> Vec<[u64; 4]> {
-    let line = |k: u64| k * size / across;
-    let cell = |k: u64| {
-        let (column, row) = (k % across, k / across);
-        [line(column), line(row), line(column + 1), line(row + 1)]
-    };
-    (0..across * across).map(cell).collect()
 }

@@ -48,7 +48,7 @@ fn gap(random: &mut Random) -> u64 {
         5 => 2,
         6..=7 => random.between(4, 9),
         8 => random.between(3, LARGEST_SIDE),
-        _ => random.pick(&[27, 28, 1000, 65_535]),
+        _ => random.pick(&[27, 28, 1000, 65_535, 65_536, GAP.1]),
     }
 }
 

@@ -43,8 +43,8 @@ const ROOM: [[u64; 3]; 13] = [
     [2, 2, 1],
     [3, 0, 0],
     [0, 3, 0],
-    [65_535, 0, 0],
-    [0, 65_535, 0],
+    [1_000_000, 0, 0],
+    [0, 1_000_000, 0],
 ];
 
 pub(super) fn decided_by_either() -> Vec<BoundaryJob> {
@@ -65,25 +65,27 @@ pub(super) fn decided_by_either() -> Vec<BoundaryJob> {
 }
 
 /// The gap to a unit square in the corner of the widest layout, and what it
-/// leaves to fill. The other gap does not matter, however wide.
-const WIDE_ROOM: [[u64; 2]; 5] = [
-    [0, 65_535 * 65_535 - 1],
-    [46_341, 2_608_064_053],
-    [65_533, 921_689_167],
-    [65_534, 921_586_310],
-    [65_535, 921_484_167],
+/// leaves to fill. The other gap does not matter, however wide. With no gap, one
+/// square more than there is room for is still an amount in its range.
+const WIDE_ROOM: [[u64; 2]; 6] = [
+    [0, 999_999_999_999],
+    [65_536, 996_626_544_350],
+    [707_107, 607_298_554_472],
+    [999_998, 214_601_978_743],
+    [999_999, 214_600_407_956],
+    [1_000_000, 214_598_840_438],
 ];
 
 pub(super) fn wide() -> Vec<BoundaryJob> {
     let mut jobs = Vec::new();
     for [gap, room] in WIDE_ROOM {
-        for other in [0, 65_535] {
+        for other in [0, 1_000_000] {
             for (kind, gaps) in [
                 (Kind::Drawn, (gap, Some(other))),
                 (Kind::Dummy, (other, Some(gap))),
             ] {
                 let corner = Line::shape(kind, [0, 0, 1, 1]);
-                jobs.extend(around_the_room(65_535, gaps, &[corner], room));
+                jobs.extend(around_the_room(1_000_000, gaps, &[corner], room));
             }
         }
     }

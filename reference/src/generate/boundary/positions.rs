@@ -12,8 +12,8 @@ fn file([size, tile, cut]: [u64; 3], [lower, upper]: [u64; 2], shapes: &[Line]) 
 
 /// Size, tile side and cut. No legal head has more positions than the first.
 const LAYOUTS: [(&str, [u64; 3]); 3] = [
-    ("most positions", [65_520, 1040, 1]),
-    ("one position", [65_535, 65_535, 1]),
+    ("most positions", [1_000_000, 15_625, 1]),
+    ("one position", [1_000_000, 1_000_000, 1]),
     ("windows of one square", [64, 1, 1]),
 ];
 
@@ -49,7 +49,7 @@ pub(super) fn one_square_off_a_bound() -> Vec<BoundaryJob> {
                 accepted(name, file(layout, [2500, 2500], &metal))
             })
     };
-    let one = around("the one window", [65_500, 65_500, 1], 0);
-    let many = around("many windows", [65_500, 1310, 20], 20_000);
+    let one = around("the one window", [1_000_000, 1_000_000, 1], 0);
+    let many = around("many windows", [1_000_000, 20_000, 20], 300_000);
     one.chain(many).collect()
 }

@@ -126,13 +126,6 @@ pub(super) fn alone() -> Vec<BoundaryJob> {
         [
             accepted(name("in the corner"), file([7, 7, 8, 8])),
             accepted(name("all over"), file([0, 0, 8, 8])),
-            refused(name("out of range"), file([0, 0, 65_536, 1]), 3, 2),
-            refused(
-                name("far out of range"),
-                file([0, 9_999_999_999, 1, 1]),
-                3,
-                2,
-            ),
         ]
     };
     Kind::BOTH.into_iter().flat_map(of_kind).collect()
@@ -154,7 +147,7 @@ pub(super) fn out_of_turn() -> Vec<BoundaryJob> {
             refused(name("after a fill, empty"), after_fill([3, 3, 3, 5]), 4, 3),
             refused(
                 name("after a fill, out of range"),
-                after_fill([0, 0, 65_536, 1]),
+                after_fill([0, 0, 1_000_001, 1]),
                 3,
                 3,
             ),

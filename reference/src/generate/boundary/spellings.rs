@@ -2,21 +2,23 @@
 
 use super::{accepted, refused, BoundaryJob};
 
-const GOOD_GAPS: [&str; 5] = [
+const GOOD_GAPS: [&str; 7] = [
     "(gap 1)",
     "(gap 1 2)",
     "(gap 0 0)",
-    "(gap 65535 0)",
-    "(gap 0 65535)",
+    "(gap 65535 65536)",
+    "(gap 65536 65535)",
+    "(gap 1000000 0)",
+    "(gap 0 1000000)",
 ];
 
 const GAPS_OUT_OF_RANGE: [&str; 6] = [
-    "(gap 65536)",
-    "(gap 1 65536)",
-    "(gap 65536 1)",
-    "(gap 1 9999999999)",
-    "(gap 9999999999 1)",
-    "(gap 1 1000000000)",
+    "(gap 1000001)",
+    "(gap 1 1000001)",
+    "(gap 1000001 1)",
+    "(gap 1 9999999999999)",
+    "(gap 9999999999999 1)",
+    "(gap 1 1000000000000)",
 ];
 
 const MISSPELLED_GAPS: [&str; 23] = [
@@ -33,8 +35,8 @@ const MISSPELLED_GAPS: [&str; 23] = [
     "(gap 1 02)",
     "(gap 01 2)",
     "(gap 1 00)",
-    "(gap 1 12345678901)",
-    "(gap 12345678901 1)",
+    "(gap 1 12345678901234)",
+    "(gap 12345678901234 1)",
     "(gap 1 -2)",
     "(gap 1 +2)",
     "(gap 1,2)",
@@ -68,7 +70,7 @@ const MISSPELLED_DUMMIES: [&str; 19] = [
     "(dummy  1 2 3 4)",
     "(dummy 1 2 3 4",
     "(dummy 1 2 3 04)",
-    "(dummy 12345678901 2 3 4)",
+    "(dummy 12345678901234 2 3 4)",
     "(Dummy 1 2 3 4)",
     "(dumm 1 2 3 4)",
     "(dummyy 1 2 3 4)",

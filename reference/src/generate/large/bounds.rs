@@ -1,14 +1,33 @@
 //! Jobs that are heavy for the counting of positions, by where their bounds are.
 
-use super::{bare_job, grid_of_different_sides, windows_alike};
+use super::bars::windows_alike;
+use super::{bare_job, grid_of_different_sides};
 use crate::fast;
 use crate::generate::kinds::drawn;
 use crate::generate::random::Random;
-use crate::job::{Job, LARGEST_SIDE};
+use crate::job::Job;
 
-/// The widest layout, under windows of so many of its tiles.
-fn widest(cut: u64) -> Job {
-    bare_job(LARGEST_SIDE / 51, 51, cut)
+pub(super) fn jobs(side: u64) -> [(&'static str, Job); 5] {
+    [
+        ("one rectangle", one_rectangle(side)),
+        ("bars at a bound", bars_at_a_bound(side)),
+        ("bounds under bars", bounds_under_bars(side)),
+        (
+            "bounds, small windows",
+            bounds_among_different_sides(side, 2),
+        ),
+        (
+            "bounds, wide windows",
+            bounds_among_different_sides(side, 16),
+        ),
+    ]
+}
+
+/// 50 tiles across, under windows of so many of them. The side of a tile is a
+/// multiple of 5, and that of a window of 20 tiles one of 100.
+fn fifty_tiles(side: u64, cut: u64) -> Job {
+    let longest = side / 50;
+    bare_job(longest - longest % 5, 50, cut)
 }
 
 /// The ten-thousandth part of a window, which is a whole number of squares.
@@ -21,8 +40,8 @@ fn bound_step(job: &Job) -> u64 {
 /// A rectangle that has one square more than the upper bound, so that its windows
 /// are over the bound just if they hold all of it. Half of it is the lower bound,
 /// along a curve.
-pub(super) fn one_rectangle() -> Job {
-    let bare = widest(20);
+fn one_rectangle(side: u64) -> Job {
+    let bare = fifty_tiles(side, 20);
     let (step, middle) = (bound_step(&bare), bare.size / 2);
     let lengths = bare.window / 2..bare.window;
     let is_beside = |width: u64| move |height: &u64| width * height % step == 1;
@@ -43,8 +62,8 @@ pub(super) fn one_rectangle() -> Job {
 
 /// Bars that cover a quarter of every window, and single squares of which every
 /// window has one: all positions are over the bound by that.
-pub(super) fn bars_at_a_bound() -> Job {
-    let bare = widest(20);
+fn bars_at_a_bound(side: u64) -> Job {
+    let bare = fifty_tiles(side, 20);
     let (size, room) = (bare.size, bare.window / 25);
     let bar = |left: u64| [left, 0, left + room / 4, size];
     let bars = (0..size - room / 4).step_by(room as usize).map(bar);
@@ -62,13 +81,13 @@ pub(super) fn bars_at_a_bound() -> Job {
 }
 
 /// Bars under which windows differ by little, and along the bars not at all.
-pub(super) fn bounds_under_bars() -> Job {
-    with_bounds_among_areas(windows_alike())
+fn bounds_under_bars(side: u64) -> Job {
+    with_bounds_among_areas(windows_alike(side))
 }
 
 /// 256 shapes with sides on different lines, under windows of so many tiles.
-pub(super) fn bounds_among_different_sides(cut: u64) -> Job {
-    let bare = widest(cut);
+fn bounds_among_different_sides(side: u64, cut: u64) -> Job {
+    let bare = fifty_tiles(side, cut);
     let boxes = grid_of_different_sides(&mut Random::new(9), bare.size, 16);
     with_bounds_among_areas(Job {
         shapes: drawn(boxes),

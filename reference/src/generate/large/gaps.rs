@@ -1,97 +1,137 @@
 //! Jobs that are heavy for the counting of fillable areas, by the gap they ask.
 
-use super::{bare_job, grid_of_different_sides, narrowed};
+use super::{bare_job, grid_of_different_sides, scaled, with_dummies, with_most_tiles};
 use crate::fast;
-use crate::generate::corners::cautious_areas;
+use crate::generate::corners::{cautious_areas, tiles_at_corners};
 use crate::generate::kinds::drawn;
 use crate::generate::random::Random;
-use crate::job::{Job, LARGEST_SIDE, MOST_SHAPES, MOST_TILES};
+use crate::job::{Job, LARGEST_SIDE, MOST_SHAPES};
 
-/// As many tiles as there may be, as wide as they may then be.
-fn most_tiles() -> Job {
-    bare_job(LARGEST_SIDE / MOST_TILES, MOST_TILES, 32)
+/// Each with the arrangement of shapes that leaves most of their arcs open at its
+/// gap: four for each shape but where they are on a diagonal or on a circle.
+pub(super) fn jobs(side: u64) -> [(&'static str, Job); 10] {
+    let [narrow, middle, wide] = [1000, 15_000, 250_000].map(|gap| scaled(gap, side));
+    let (tiles, one) = (in_most_tiles, in_one_tile);
+    [
+        ("gap of 0", tiles(side, 0, different_sides)),
+        ("gap of 1,000", tiles(side, narrow, different_sides)),
+        ("gap of 1,000, one tile", one(side, narrow, different_sides)),
+        ("gap of 15,000", tiles(side, middle, short_sides)),
+        ("gap of 15,000, one tile", one(side, middle, short_sides)),
+        ("gap of 250,000", tiles(side, wide, middle_row)),
+        ("gap of 250,000, one tile", one(side, wide, middle_row)),
+        ("gap of 250,000, diagonal", tiles(side, wide, diagonal)),
+        ("gap of 1,000,000", around_a_circle(side)),
+        ("gaps that differ", gaps_that_differ(side)),
+    ]
 }
 
-fn with_gap(bare: Job, gap: u64, boxes: Vec<[u64; 4]>) -> Job {
+/// The boxes of the shapes in a layout of this size.
+type Arrangement = fn(u64) -> Vec<[u64; 4]>;
+
+fn with_gap(bare: Job, gap: u64, arrangement: Arrangement) -> Job {
     Job {
         gap,
         dummy_gap: gap,
-        shapes: drawn(boxes),
+        shapes: drawn(arrangement(bare.size)),
         ..bare
     }
 }
 
 /// So many fill lines surely fit in a file beside as many shapes as may stand.
-const FILLS: usize = 3500;
+const FILLS: usize = 3400;
 
-/// One square in each tile that has one for sure. Where these are too many for a
-/// file, those that stay without are spread over the layout.
-fn sparingly_filled(job: Job) -> Job {
-    let mut fills = cautious_areas(&job);
-    let sure: Vec<usize> = (0..fills.len()).filter(|&tile| fills[tile] > 0).collect();
-    fills.fill(0);
-    let count = sure.len().min(FILLS);
-    for number in 0..count {
-        fills[sure[number * sure.len() / count]] = 1;
+/// One square in each tile that has room for it, as far as these fit in a file;
+/// before all others where arcs cross a tile, since only these take long to measure.
+fn in_most_tiles(side: u64, gap: u64, arrangement: Arrangement) -> Job {
+    let job = with_gap(with_most_tiles(side, 32), gap, arrangement);
+    let areas = fast::fillable_areas(&job);
+    let crossed = tiles_at_corners(&job, &areas);
+    let with_room = (0..areas.len()).filter(|&tile| areas[tile] > 0);
+    let mut fills = vec![0; areas.len()];
+    let mut count = 0;
+    for tile in crossed.into_iter().chain(with_room) {
+        if fills[tile] == 0 && count < FILLS {
+            fills[tile] = 1;
+            count += 1;
+        }
     }
     Job { fills, ..job }
 }
 
-/// 256 shapes with sides on different lines, for narrow gaps.
-pub(super) fn around_different_sides(gap: u64) -> Job {
-    let bare = most_tiles();
-    let boxes = grid_of_different_sides(&mut Random::new(7), bare.size, 16);
-    sparingly_filled(with_gap(bare, gap, boxes))
-}
-
-/// The same with sides of 300 at most, so that a wider gap leaves something.
-pub(super) fn around_short_sides(gap: u64) -> Job {
-    let bare = most_tiles();
-    let boxes = short_sides(bare.size);
-    sparingly_filled(with_gap(bare, gap, boxes))
-}
-
-fn short_sides(size: u64) -> Vec<[u64; 4]> {
-    let mut random = Random::new(8);
-    let boxes = grid_of_different_sides(&mut random, size, 16);
-    narrowed(&mut random, boxes)
-}
-
-/// Single squares along the diagonal. What they bar is a band, and nearly all of
-/// them have a part in both of its sides.
-pub(super) fn around_a_diagonal(gap: u64) -> Job {
-    let (bare, count) = (most_tiles(), MOST_SHAPES as u64);
-    let step = bare.size / count;
-    let squares = (0..count).map(|k| unit_square(k * step, k * step));
-    sparingly_filled(with_gap(bare, gap, squares.collect()))
-}
-
-/// Single squares on a quarter circle around the layout's corner. What a gap as
-/// wide as the layout leaves lies in the far corner, and many squares have a part
-/// in its edge. Only round corners leave anything there, so no amount is a sure
-/// one, and each tile is filled wholly.
-pub(super) fn around_a_circle(gap: u64) -> Job {
-    let (step, count) = (12, MOST_SHAPES as u64);
-    let radius = step * (count - 1);
-    let square = |x: u64| unit_square(x, (radius * radius - x * x).isqrt());
-    let squares = (0..count).map(|k| square(k * step));
-    let job = with_gap(most_tiles(), gap, squares.collect());
+/// The whole layout is one tile, and filled with all that it can take.
+fn in_one_tile(side: u64, gap: u64, arrangement: Arrangement) -> Job {
+    let job = with_gap(bare_job(side, 1, 1), gap, arrangement);
     Job {
         fills: fast::fillable_areas(&job),
         ..job
     }
 }
 
-/// The shapes with short sides in one tile of the whole layout, and its fill.
-pub(super) fn in_a_single_tile(gap: u64) -> Job {
-    let whole = bare_job(LARGEST_SIDE, 1, 1);
-    let job = with_gap(whole, gap, short_sides(LARGEST_SIDE));
+/// 256 shapes with sides on different lines.
+fn different_sides(size: u64) -> Vec<[u64; 4]> {
+    grid_of_different_sides(&mut Random::new(7), size, 16)
+}
+
+/// The same with short sides, so that a wider gap leaves something.
+fn short_sides(size: u64) -> Vec<[u64; 4]> {
+    let mut random = Random::new(8);
+    let mut boxes = grid_of_different_sides(&mut random, size, 16);
+    let longest = scaled(4500, size);
+    for [x1, y1, x2, y2] in &mut boxes {
+        *x2 = *x1 + 1 + random.below(longest);
+        *y2 = *y1 + 1 + random.below(longest);
+    }
+    boxes
+}
+
+/// As many single squares as may stand, at these places of a layout of this size.
+fn squares(size: u64, place: impl Fn(u64) -> [u64; 2]) -> Vec<[u64; 4]> {
+    let count = MOST_SHAPES as u64;
+    let square = |[x, y]: [u64; 2]| [x, y, x + 1, y + 1];
+    let step = size / count;
+    (0..count).map(|k| square(place(k * step))).collect()
+}
+
+/// Single squares in one row. What they bar is a band, and each of them has a part
+/// in both of its sides. These are flat: at a short side of the layout they bend by
+/// less than a square, and the job is lighter for that too.
+fn middle_row(size: u64) -> Vec<[u64; 4]> {
+    squares(size, |x| [x, size / 2])
+}
+
+/// Single squares along the diagonal. Many of them have a part in both sides of the
+/// band that they bar, and its sides cross many tiles.
+fn diagonal(size: u64) -> Vec<[u64; 4]> {
+    squares(size, |x| [x, x])
+}
+
+/// Single squares on a quarter circle around the layout's corner.
+fn quarter_circle(size: u64) -> Vec<[u64; 4]> {
+    let radius = scaled(46_665, size);
+    squares(radius, |x| [x, (radius * radius - x * x).isqrt()])
+}
+
+/// What a gap as wide as the layout leaves lies in the corner opposite the circle,
+/// and many squares have a part in its edge. Only round corners leave anything
+/// there. Each tile is filled wholly.
+fn around_a_circle(side: u64) -> Job {
+    let gap = scaled(LARGEST_SIDE, side);
+    let job = with_gap(with_most_tiles(side, 32), gap, quarter_circle);
     Job {
-        fills: cautious_areas(&job),
+        fills: fast::fillable_areas(&job),
         ..job
     }
 }
 
-fn unit_square(x: u64, y: u64) -> [u64; 4] {
-    [x, y, x + 1, y + 1]
+/// Wide gaps to drawn metal and narrower ones to dummies, under one window; each
+/// tile is filled with all that it can take for sure.
+fn gaps_that_differ(side: u64) -> Job {
+    let bare = with_most_tiles(side, 64);
+    let drawn = with_gap(bare, 0, short_sides);
+    let job = with_dummies(drawn, scaled(18_000, side), scaled(6000, side));
+    Job {
+        fills: cautious_areas(&job),
+        ..job
+    }
 }
