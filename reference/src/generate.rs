@@ -21,7 +21,7 @@ pub use bounds::{bounded_job, large_bounded_job};
 pub use corners::{cautious_areas, corner_job, large_corner_job};
 pub use damage::damaged_job;
 pub use faulty::{faulty_job, job_with_fault, SPOILABLE};
-pub use large::{large_job, large_jobs, LargeJob};
+pub use large::{large_job, large_jobs, within_limit, LargeJob};
 pub use line::{bytes_of, Line};
 pub use random::Random;
 pub use small::{small_job, small_lines};

@@ -103,7 +103,7 @@ fn with_most_tiles(side: u64, cut: u64) -> Job {
 }
 
 /// The job's file, its last fills left out as far as it would be too long.
-pub(super) fn within_limit(job: &Job) -> Vec<u8> {
+pub fn within_limit(job: &Job) -> Vec<u8> {
     let mut lines = lines_of(job);
     let mut bytes = bytes_of(&lines);
     while bytes.len() > LARGEST_FILE {

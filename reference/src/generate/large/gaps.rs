@@ -9,8 +9,8 @@ use crate::job::{Job, LARGEST_SIDE, MOST_SHAPES};
 
 /// Each with the arrangement of shapes that leaves most of their arcs open at its
 /// gap: four for each shape but where they are on a diagonal or on a circle.
-pub(super) fn jobs(side: u64) -> [(&'static str, Job); 10] {
-    let [narrow, middle, wide] = [1000, 15_000, 250_000].map(|gap| scaled(gap, side));
+pub(super) fn jobs(side: u64) -> [(&'static str, Job); 11] {
+    let [narrow, middle, open, wide] = [1000, 15_000, 31_000, 250_000].map(|gap| scaled(gap, side));
     let (tiles, one) = (in_most_tiles, in_one_tile);
     [
         ("gap of 0", tiles(side, 0, different_sides)),
@@ -18,6 +18,7 @@ pub(super) fn jobs(side: u64) -> [(&'static str, Job); 10] {
         ("gap of 1,000, one tile", one(side, narrow, different_sides)),
         ("gap of 15,000", tiles(side, middle, short_sides)),
         ("gap of 15,000, one tile", one(side, middle, short_sides)),
+        ("gap of 31,000", tiles(side, open, single_squares)),
         ("gap of 250,000", tiles(side, wide, middle_row)),
         ("gap of 250,000, one tile", one(side, wide, middle_row)),
         ("gap of 250,000, diagonal", tiles(side, wide, diagonal)),
@@ -85,10 +86,24 @@ fn short_sides(size: u64) -> Vec<[u64; 4]> {
     boxes
 }
 
+fn square([x, y]: [u64; 2]) -> [u64; 4] {
+    [x, y, x + 1, y + 1]
+}
+
+/// Single squares in the middles of a grid's cells. With a gap of nearly half a cell
+/// the circles around them are as long as they can be and all open.
+fn single_squares(size: u64) -> Vec<[u64; 4]> {
+    let across = MOST_SHAPES.isqrt() as u64;
+    let middle = |cell: u64| (2 * cell + 1) * size / (2 * across);
+    let place = |cell: u64| [middle(cell % across), middle(cell / across)];
+    (0..across * across)
+        .map(|cell| square(place(cell)))
+        .collect()
+}
+
 /// As many single squares as may stand, at these places of a layout of this size.
 fn squares(size: u64, place: impl Fn(u64) -> [u64; 2]) -> Vec<[u64; 4]> {
     let count = MOST_SHAPES as u64;
-    let square = |[x, y]: [u64; 2]| [x, y, x + 1, y + 1];
     let step = size / count;
     (0..count).map(|k| square(place(k * step))).collect()
 }
