@@ -6,7 +6,7 @@ use reference::generate::{
     large_corner_job, large_job, large_jobs, mixed_job, small_job, Random, COMPARED_BOUNDED_SEEDS,
     COMPARED_CORNER_SEEDS, COMPARED_DAMAGED_SEEDS, COMPARED_FAULTY_SEEDS,
     COMPARED_LARGE_BOUNDED_SEEDS, COMPARED_LARGE_CORNER_SEEDS, COMPARED_LARGE_SEEDS,
-    COMPARED_SEEDS,
+    COMPARED_SEEDS, SHORTER_SIDE,
 };
 use reference::job::LARGEST_SIDE;
 use std::ops::Range;
@@ -72,7 +72,7 @@ fn bounds_at_frequent_areas() {
 #[test]
 fn heaviest_jobs() {
     on_large_stack(|| {
-        for side in [50_000, LARGEST_SIDE] {
+        for side in [SHORTER_SIDE, LARGEST_SIDE] {
             for job in large_jobs(side) {
                 println!("{} of {side}", job.name);
                 compare(&job.job);
@@ -108,6 +108,8 @@ fn sample_jobs() {
         ("dummies", "(fill safe)"),
         ("corners", "(fill safe)"),
         ("yield", "(positions 32 85 4)"),
+        ("large", "(positions 24467738 63480036263 0)"),
+        ("large", "(fill undecided under 0 0)"),
         ("refused", "(refused 11 8)"),
     ];
     on_large_stack(move || {

@@ -130,6 +130,11 @@ impl Job {
         1000 * high <= (1000 + 2 * self.accuracy) * low
     }
 
+    /// The greatest lower bound that a window sum keeps.
+    pub fn bound_at(&self, sum: u64) -> u64 {
+        10_000 * sum / (self.window * self.window)
+    }
+
     /// Whether a window sum keeps the upper bound.
     pub fn keeps_upper(&self, sum: u64) -> bool {
         10_000 * sum <= self.upper * self.window * self.window

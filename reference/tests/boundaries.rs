@@ -4,7 +4,9 @@ mod common;
 
 use common::printed_by_both;
 use reference::answer::{answer, printed, Answer, Method, Reply, ANSWER_ROOM};
-use reference::generate::{boundary_jobs, cautious_areas, large_job, large_jobs, LargeJob, Random};
+use reference::generate::{
+    boundary_jobs, cautious_areas, large_job, large_jobs, LargeJob, Random, SHORTER_SIDE,
+};
 use reference::job::{Job, Kind, Refusal, LARGEST_SIDE};
 use reference::outcome::{
     End, Exact, Failure, Outcome, Positions, Quick, Shown, Side, Verdict, Window,
@@ -339,15 +341,11 @@ fn heaviest_jobs_with_dummies_have_many_of_both_kinds() {
     assert_eq!(Method::Fast.outcome(&bars).verdict, Verdict::Safe);
 }
 
-/// A side at which the heaviest jobs take little time. All but the length of their
-/// numbers is the same at every side.
-const SMALLER_SIDE: u64 = 50_000;
-
 /// Each has as many fills as fit in its file, or as there are tiles with room, and
 /// so many tiles with more room than square corners would leave.
 #[test]
 fn heaviest_jobs_by_gap_have_many_fills_and_arcs() {
-    let smaller = large_jobs(SMALLER_SIDE);
+    let smaller = large_jobs(SHORTER_SIDE);
     for (name, gap, fills, gaining) in [
         ("gap of 0", 0, 3400, 0),
         ("gap of 1,000", 1000, 3400, 1100),
@@ -363,6 +361,8 @@ fn heaviest_jobs_by_gap_have_many_fills_and_arcs() {
         let large = LARGE_JOBS.iter().find(|large| large.name == name).unwrap();
         let job = fast::read(&large.without_fills()).unwrap();
         assert_eq!((job.gap, job.shapes.len()), (gap, 256), "{name}");
+        let tiles = if name.ends_with("one tile") { 1 } else { 64 };
+        assert_eq!((job.size, job.tiles()), (1_000_000, tiles), "{name}");
         let lines = large.job.split(|&byte| byte == b'\n');
         let filled = lines.filter(|line| line.starts_with(b"(fill")).count();
         assert!(filled >= fills, "{name}: {filled}");
@@ -383,13 +383,12 @@ fn heaviest_jobs_by_gap_have_many_fills_and_arcs() {
 /// it bars.
 #[test]
 fn heaviest_jobs_by_gap_need_many_of_their_shapes() {
-    let jobs = large_jobs(SMALLER_SIDE);
     for (name, least) in [
         ("gap of 250,000", 16),
-        ("gap of 250,000, diagonal", 10),
-        ("gap of 1,000,000", 3),
+        ("gap of 250,000, diagonal", 11),
+        ("gap of 1,000,000", 10),
     ] {
-        let job = named(&jobs, name);
+        let job = heaviest_job(name);
         let room = |job: &Job| fast::fillable_areas(job).iter().sum::<u64>();
         let with_all = room(&job);
         let is_needed = |place: &usize| {
@@ -441,8 +440,14 @@ fn heaviest_jobs_by_bounds_have_positions_at_them() {
 
 #[test]
 fn quick_runs_of_the_heaviest_jobs() {
+    quick_runs(&LARGE_JOBS);
+    quick_runs(&large_jobs(SHORTER_SIDE));
+}
+
+/// Levels and starts of the quick runs, which are as many at every side.
+fn quick_runs(jobs: &[LargeJob]) {
     let runs = |name: &str, levels: u64| {
-        let job = heaviest_job(name);
+        let job = named(jobs, name);
         let Outcome {
             greatest, least, ..
         } = Method::Fast.outcome(&Job { levels, ..job });

@@ -344,6 +344,7 @@ fn large_jobs_have_large_numbers() {
         let max = Method::Fast.outcome(&job).exact.max.window;
         counts.see_if(max.area > u64::from(u32::MAX), "area");
     }
-    counts.require(15, ["size", "window", "area"].map(String::from));
+    counts.require(55, ["size".to_string()]);
+    counts.require(15, ["window", "area"].map(String::from));
     counts.require(3, ["gap", "fill"].map(String::from));
 }

@@ -121,7 +121,7 @@ fn bounded_jobs_are_at_their_bounds() {
 
 #[test]
 fn large_bounded_jobs_are_at_their_bounds() {
-    let least = [200, 20, 30, 40, 15, 15, 10, 6, 10, 8, 12, 8, 15, 5, 20, 20];
+    let least = [200, 20, 30, 40, 15, 15, 10, 6, 10, 10, 15, 8, 20, 5, 20, 20];
     require(COMPARED_LARGE_BOUNDED_SEEDS, large_bounded_job, least);
 }
 

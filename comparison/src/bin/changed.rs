@@ -10,7 +10,7 @@ use comparison::earlier::{self, difference, word_of, Difference};
 use comparison::{on_large_stack, LINKED};
 use reference::generate::{
     boundary_jobs, bounded_job, corner_job, damaged_job, faulty_job, large_bounded_job, large_job,
-    large_jobs, small_job, Random,
+    large_jobs, small_job, Random, SHORTER_SIDE,
 };
 use reference::job::LARGEST_SIDE;
 use std::collections::BTreeMap;
@@ -30,7 +30,7 @@ const KINDS: [Kind; 7] = [
 ];
 
 /// The sides of the heaviest jobs: an earlier state need not know the longest.
-const SIDES: [u64; 3] = [50_000, 65_535, LARGEST_SIDE];
+const SIDES: [u64; 2] = [SHORTER_SIDE, LARGEST_SIDE];
 
 /// The jobs at the limits, the heaviest ones, and random ones of every kind.
 fn jobs() -> impl Iterator<Item = Vec<u8>> {

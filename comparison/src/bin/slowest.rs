@@ -1,18 +1,19 @@
 //! Looks for slow jobs. From each heavy job, and from random ones of full size, it
 //! tries changes in turn and goes on from every one that makes the answer take longer:
-//! sides of shapes moved, windows and gaps of other widths, bounds at areas that windows
-//! have, fills in all tiles that surely have room or in none. It prints what it began
-//! with and what it came to, and the slowest of all by its phases.
+//! shapes moved or made wider or narrower, windows and gaps of other widths, kinds
+//! exchanged, bounds at areas that windows have, fills in all tiles with room. It prints
+//! what it began with and what it came to, and how many of the changes were legal jobs
+//! and how many took longer; at last the slowest of all by its phases.
 //!
-//! The arguments are how many changes are tried from each start, 100 unless it is
+//! The arguments are how many changes are tried from each start, 40 unless it is
 //! given, and a file that the slowest job is written to.
 
-use comparison::timing::in_turn;
+use comparison::timing::{in_turn, Sample};
 use comparison::{on_large_stack, LINKED};
 use reference::answer::{Reply, ANSWER_ROOM};
 use reference::fast;
-use reference::generate::{cautious_areas, large_job, large_jobs, within_limit, Random};
-use reference::job::{Job, LARGEST_SIDE};
+use reference::generate::{large_job, large_jobs, within_limit, Random};
+use reference::job::{Job, Kind, LARGEST_SIDE};
 
 /// How many random jobs it starts from.
 const RANDOM_STARTS: u64 = 30;
@@ -20,75 +21,93 @@ const RANDOM_STARTS: u64 = 30;
 /// What counts as longer, so that noise seldom does.
 const LONGER: f64 = 1.03;
 
-/// A job that is answered, and how long that takes, in milliseconds.
-struct Timed {
+/// A legal job and its file.
+struct Legal {
     job: Job,
     file: Vec<u8>,
-    time: f64,
 }
 
-impl Timed {
+impl Legal {
     /// None if the job is refused.
-    fn new(job: Job) -> Option<Timed> {
-        let file = within_limit(&job);
-        let reply = || LINKED.answer(&file, &mut [0; ANSWER_ROOM]);
-        matches!(reply(), Reply::Accepted(_))
-            .then(|| in_turn(1, &[reply])[0].least())
-            .map(|time| Timed { job, file, time })
+    fn new(job: Job) -> Option<Legal> {
+        let legal = Legal {
+            file: within_limit(&job),
+            job,
+        };
+        matches!(legal.answer(), Reply::Accepted(_)).then_some(legal)
     }
 
-    /// The slowest that so many changes lead to.
-    fn slowed(self, random: &mut Random, changes: u64) -> Timed {
-        (0..changes).fold(self, |slowest, _| {
-            let other = Timed::new(changed(random, &slowest.job));
-            other
-                .filter(|other| other.time > LONGER * slowest.time)
-                .unwrap_or(slowest)
-        })
+    fn answer(&self) -> Reply {
+        LINKED.answer(&self.file, &mut [0; ANSWER_ROOM])
+    }
+}
+
+/// The least times of their answers in so many rounds, in milliseconds.
+fn times<const K: usize>(jobs: [&Legal; K], rounds: usize) -> [f64; K] {
+    let samples = in_turn(rounds, &jobs.map(|legal| || legal.answer()));
+    let least: Vec<f64> = samples.iter().map(Sample::least).collect();
+    least.try_into().expect("a time of each")
+}
+
+/// Whether a job takes longer than another. Only what seems to is timed again.
+fn takes_longer(job: &Legal, other: &Legal) -> bool {
+    [1, 3].into_iter().all(|rounds| {
+        let [time, before] = times([job, other], rounds);
+        time > LONGER * before
+    })
+}
+
+/// What changes led to, and how many of them were legal and taken.
+struct Slowed {
+    slowest: Legal,
+    legal: u64,
+    taken: u64,
+}
+
+impl Slowed {
+    fn new(slowest: Legal) -> Slowed {
+        Slowed {
+            slowest,
+            legal: 0,
+            taken: 0,
+        }
     }
 
-    fn print_phases(&self) {
-        let phase = |number| in_turn(3, &[|| LINKED.phase(&self.file, number)])[0].least();
-        let [reading, exact, greatest, least, verdict, positions] = [0, 1, 2, 3, 4, 5].map(phase);
-        println!("reading {reading:.1}, exact run {:.1}", exact - reading);
-        println!(
-            "quick runs {:.1} and {:.1}",
-            greatest - exact,
-            least - exact
-        );
-        println!(
-            "verdict {:.1}, positions {:.1}",
-            verdict - reading,
-            positions - reading
-        );
+    fn try_change(&mut self, random: &mut Random) {
+        let Some(other) = Legal::new(changed(random, &self.slowest.job)) else {
+            return;
+        };
+        self.legal += 1;
+        if takes_longer(&other, &self.slowest) {
+            self.taken += 1;
+            self.slowest = other;
+        }
     }
 }
 
 /// The job with one thing changed.
 fn changed(random: &mut Random, job: &Job) -> Job {
     let mut job = job.clone();
-    match random.below(8) {
+    match random.below(9) {
         0 => change_window(random, &mut job),
-        1 => job.gap = other_length(random, job.gap),
-        2 => job.dummy_gap = other_length(random, job.dummy_gap),
-        3 => change_bounds(random, &mut job),
-        4 => job.fills = sure_fills(&job),
-        5 => job.fills.fill(0),
-        _ => move_sides(random, &mut job),
+        1 => change_bounds(random, &mut job),
+        2 => job.gap = other_length(random, job.gap),
+        3 => job.dummy_gap = other_length(random, job.dummy_gap),
+        4 => exchange_kinds(random, &mut job),
+        5 => job.fills = fills_with_room(&job),
+        _ => change_shapes(random, &mut job),
     }
     // What was room before may be barred now.
     if job.fills.iter().any(|&amount| amount > 0) {
-        job.fills = sure_fills(&job);
+        job.fills = fills_with_room(&job);
     }
     job
 }
 
-/// A square of fill in each tile that surely has room for it.
-fn sure_fills(job: &Job) -> Vec<u64> {
-    cautious_areas(job)
-        .into_iter()
-        .map(|most| most.min(1))
-        .collect()
+/// A square of fill in each tile that has room for it.
+fn fills_with_room(job: &Job) -> Vec<u64> {
+    let areas = fast::fillable_areas(job);
+    areas.into_iter().map(|most| most.min(1)).collect()
 }
 
 /// Tiles stay as they are.
@@ -99,73 +118,119 @@ fn change_window(random: &mut Random, job: &mut Job) {
     change_bounds(random, job);
 }
 
-/// Half to one and a half times as much, and a little more, so that 0 does not stay.
-fn other_length(random: &mut Random, length: u64) -> u64 {
-    let other = length / 2 + random.below(length + 100);
-    other.min(LARGEST_SIDE)
-}
-
 /// Bounds at the areas of two windows.
 fn change_bounds(random: &mut Random, job: &mut Job) {
     let cover = fast::metal_cover(job);
     let mut place = || random.below(job.last_position() + 1);
     let mut bound = || {
         let (x, y) = (place(), place());
-        let area = cover.area([x, y, x + job.window, y + job.window]);
-        10_000 * area / (job.window * job.window)
+        job.bound_at(cover.area([x, y, x + job.window, y + job.window]))
     };
     let (one, other) = (bound(), bound());
     (job.lower, job.upper) = (one.min(other), one.max(other));
 }
 
-/// One side of up to a quarter of the shapes, by up to so much each, whatever that is.
-/// Shapes that then overlap make the job one that is refused.
-fn move_sides(random: &mut Random, job: &mut Job) {
-    let count = job.shapes.len() as u64;
-    if count == 0 {
-        return;
+/// Half to one and a half times as much, and a little more, so that 0 does not stay.
+fn other_length(random: &mut Random, length: u64) -> u64 {
+    let other = length / 2 + random.below(length + 100);
+    other.min(LARGEST_SIDE)
+}
+
+/// Every shape of one kind in eight becomes one of the other.
+fn exchange_kinds(random: &mut Random, job: &mut Job) {
+    for shape in &mut job.shapes {
+        if random.one_in(8) {
+            shape.kind = match shape.kind {
+                Kind::Drawn => Kind::Dummy,
+                Kind::Dummy => Kind::Drawn,
+            };
+        }
     }
-    let most = 1 << random.below(15);
-    for _ in 0..1 + random.below(count / 4 + 1) {
-        let shape = &mut job.shapes[random.below(count) as usize];
-        let side = &mut shape.corners[random.below(4) as usize];
-        *side = (*side + random.below(2 * most + 1)).saturating_sub(most);
+}
+
+/// Some shapes, each moved or with a side moved, by up to so much, whatever that is.
+/// Where it would leave the layout, be empty or overlap another, it stays.
+fn change_shapes(random: &mut Random, job: &mut Job) {
+    let most = 1 << random.below(17);
+    let share = 1 << random.below(8);
+    for place in 0..job.shapes.len() {
+        if random.one_in(share) {
+            let corners = other_corners(random, most, job.shapes[place].corners);
+            if fits(job, place, corners) {
+                job.shapes[place].corners = corners;
+            }
+        }
     }
+}
+
+fn other_corners(random: &mut Random, most: u64, corners: [u64; 4]) -> [u64; 4] {
+    let mut by = || random.below(2 * most + 1);
+    let [across, down] = [by(), by()];
+    let mut by = [across, down, across, down];
+    if random.one_in(2) {
+        // A side of its own moves, the others stay.
+        let side = random.below(4) as usize;
+        by = [0, 1, 2, 3].map(|other| if other == side { by[side] } else { most });
+    }
+    [0, 1, 2, 3].map(|side| (corners[side] + by[side]).saturating_sub(most))
+}
+
+/// Whether the shape at a place may have these corners.
+fn fits(job: &Job, place: usize, [x1, y1, x2, y2]: [u64; 4]) -> bool {
+    let is_apart = |[a1, b1, a2, b2]: [u64; 4]| a2 <= x1 || x2 <= a1 || b2 <= y1 || y2 <= b1;
+    let mut others = job.boxes().enumerate().filter(|&(other, _)| other != place);
+    x1 < x2 && y1 < y2 && x2.max(y2) <= job.size && others.all(|(_, corners)| is_apart(corners))
 }
 
 /// The jobs that it starts from, by name.
 fn starts() -> Vec<(String, Vec<u8>)> {
     let heavy = large_jobs(LARGEST_SIDE).into_iter();
     let heavy = heavy.map(|large| (large.name.to_string(), large.job));
-    let random = (0..RANDOM_STARTS)
-        .map(|seed| (format!("random {seed}"), large_job(&mut Random::new(seed))));
+    let random = |seed| large_job(&mut Random::new(seed));
+    let random = (0..RANDOM_STARTS).map(|seed| (format!("random {seed}"), random(seed)));
     heavy.chain(random).collect()
 }
 
-fn search(changes: u64) -> Timed {
+fn search(changes: u64) -> Legal {
     let mut random = Random::new(1);
-    let slowed = |(name, file): (String, Vec<u8>)| {
-        let start = Timed::new(fast::read(&file).expect("a valid job")).expect("a valid job");
-        let first = start.time;
-        let slowest = start.slowed(&mut random, changes);
-        println!("{name}: {first:.1} ms, slowed to {:.1}", slowest.time);
-        slowest
-    };
-    let all = starts().into_iter().map(slowed);
-    all.max_by(|one, other| one.time.total_cmp(&other.time))
-        .expect("some job")
+    let mut slowest_of_all: Option<(f64, Legal)> = None;
+    for (name, file) in starts() {
+        let start = || fast::read(&file).ok().and_then(Legal::new);
+        let first = start().expect("a legal job");
+        let mut slowed = Slowed::new(start().expect("a legal job"));
+        (0..changes).for_each(|_| slowed.try_change(&mut random));
+        let [before, time] = times([&first, &slowed.slowest], 3);
+        let (legal, taken) = (slowed.legal, slowed.taken);
+        println!("{name}: {before:.1} ms, slowed to {time:.1}; {legal} legal, {taken} taken");
+        if slowest_of_all.as_ref().is_none_or(|(most, _)| time > *most) {
+            slowest_of_all = Some((time, slowed.slowest));
+        }
+    }
+    slowest_of_all.expect("some job").1
+}
+
+fn print_phases(Legal { file, .. }: &Legal) {
+    let phases = [0, 1, 2, 3, 4, 5].map(|number| move || LINKED.phase(file, number));
+    let least: Vec<f64> = in_turn(5, &phases).iter().map(Sample::least).collect();
+    let [reading, exact, greatest, least, verdict, positions] =
+        least.try_into().expect("a time of each phase");
+    println!("reading {reading:.1} ms, exact run {:.1}", exact - reading);
+    println!("quick runs {:.1}, {:.1}", greatest - exact, least - exact);
+    println!("positions {:.1}", positions - reading);
+    println!("verdict {:.1}", verdict - reading);
 }
 
 fn main() {
     let mut arguments = std::env::args().skip(1);
     let changes = arguments
         .next()
-        .map_or(100, |text| text.parse().expect("a number of changes"));
+        .map_or(40, |text| text.parse().expect("a number of changes"));
     let path = arguments.next();
     on_large_stack(move || {
         let slowest = search(changes);
-        println!("the slowest: {:.1} ms", slowest.time);
-        slowest.print_phases();
+        let [time] = times([&slowest], 5);
+        println!("the slowest: {time:.1} ms");
+        print_phases(&slowest);
         if let Some(path) = path {
             std::fs::write(path, &slowest.file).expect("a file that can be written");
         }

@@ -40,17 +40,18 @@ fn show_limits() {
     show(b"no_line_feed.job");
 }
 
-// The largest numbers, each with the next one.
+// The largest numbers, each with the next one, and at last positions among bounds in
+// the largest layout.
 fn show_ranges() {
     show(b"side_1000000.job");
     show(b"side_1000001.job");
     show(b"window_1000000.job");
     show(b"window_1000001.job");
     show(b"gap_1000000.job");
-    show(b"gap_1000000_over.job");
+    show(b"gap_1000000_one_more.job");
     show(b"gap_1000001.job");
     show(b"dummy_gap_1000000.job");
-    show(b"dummy_gap_1000000_over.job");
+    show(b"dummy_gap_1000000_one_more.job");
     show(b"dummy_gap_1000001.job");
     show(b"corner_1000000.job");
     show(b"corner_1000001.job");

@@ -25,7 +25,7 @@ abbrev pub unitLimits : Limits
 unitLimits =
     record { bytes = 60000; digits = 13; shapes = 256; side = 1000000; tiles = 64; bound = 10000; accuracy = 1000; levels = 6; amount = 1000000000000 }
 
--- the limits before that request, for the law that compares the two
+-- the limits before that request, for the laws about files from then
 abbrev pub earlierLimits : Limits
 earlierLimits =
     record { bytes = 60000; digits = 10; shapes = 256; side = 65535; tiles = 64; bound = 10000; accuracy = 1000; levels = 6; amount = 4294836225 }

@@ -2,7 +2,8 @@
 //!
 //! The lengths of a heavy job are parts of the side; its shapes, tiles and levels
 //! are as many at every side. So the times of one job at two sides tell what the
-//! length of the side costs.
+//! length of the side costs; only arcs that are nearly flat have less to them at a
+//! shorter side, where they bend by less than a square.
 
 mod bars;
 mod bounds;
@@ -18,6 +19,10 @@ use super::line::{bytes_of, lines_of, Line};
 use super::random::Random;
 use crate::fast;
 use crate::job::{Job, Kind, LARGEST_FILE, LARGEST_SIDE, MOST_TILES};
+
+/// A side at which heavy jobs take little time. Units from before request 8 knew no
+/// longer one.
+pub const SHORTER_SIDE: u64 = 65_535;
 
 /// A named job of full size.
 pub struct LargeJob {

@@ -230,7 +230,7 @@ fn aimed_lower(random: &mut Random, job: &Job) -> u64 {
     let cut = job.cut as usize;
     let places = random.pick(&[(0, cut), (1, cut), (1, cut)]);
     let least = window_loads(job, places.0..places.1).min().unwrap_or(0);
-    let tight = 10_000 * least / (job.window * job.window);
+    let tight = job.bound_at(least);
     let aimed = random.pick(&[tight.saturating_sub(1), tight, tight, tight + 1, 0]);
     aimed.min(10_000)
 }

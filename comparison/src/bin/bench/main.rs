@@ -28,14 +28,11 @@ mod times;
 use comparison::earlier::Difference;
 use comparison::{earlier, on_large_stack, plain, Library, LINKED};
 use reference::answer::{Reply, ANSWER_ROOM};
-use reference::generate::{large_jobs, LargeJob};
+use reference::generate::{large_jobs, LargeJob, SHORTER_SIDE};
 use reference::job::LARGEST_SIDE;
 use std::process::ExitCode;
 use table::Table;
 use times::{proved_times, second_times, time_above_noise, Files};
-
-/// The side of the shorter jobs.
-const SHORTER_SIDE: u64 = 65_535;
 
 /// The earlier library, if there is one and it does not refuse the job; a refusal
 /// is shown.

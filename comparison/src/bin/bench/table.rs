@@ -41,11 +41,11 @@ const OTHERS: [(&str, Phase); 3] = [
 const COLUMNS: [&str; 7] = [
     "proved ms",
     "second ms",
-    "ratio",
+    "/ second",
     "shorter ms",
-    "ratio",
+    "/ shorter",
     "before ms",
-    "ratio",
+    "/ before",
 ];
 
 fn ratio(time: Milliseconds, other: Milliseconds) -> Milliseconds {

@@ -8,8 +8,9 @@ use reference::generate::LargeJob;
 use reference::job::Job;
 use reference::sense::Sense;
 
-/// Most rounds of runs.
+/// Most and least rounds of runs behind the first.
 const MOST_ROUNDS: usize = 15;
+const LEAST_ROUNDS: usize = 2;
 /// So many milliseconds all rounds behind the first may take: where one run takes
 /// long, fewer are enough.
 const ROUNDS_TIME: f64 = 2000.0;
@@ -39,13 +40,9 @@ fn least_times<T>(tasks: &[impl Fn() -> T]) -> Vec<f64> {
     let once = least(1);
     // Each round runs a task twice.
     let others = ROUNDS_TIME / (2.0 * once.iter().sum::<f64>());
-    match (others as usize).min(MOST_ROUNDS) {
-        0 => once,
-        rounds => {
-            let pairs = once.into_iter().zip(least(rounds));
-            pairs.map(|(one, other)| one.min(other)).collect()
-        }
-    }
+    let rounds = (others as usize).clamp(LEAST_ROUNDS, MOST_ROUNDS);
+    let pairs = once.into_iter().zip(least(rounds));
+    pairs.map(|(one, other)| one.min(other)).collect()
 }
 
 /// The least time of several runs.

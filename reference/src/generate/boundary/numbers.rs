@@ -1,5 +1,5 @@
-//! Every number of every form at the end of its range, and of as many digits as a
-//! number may have and one more.
+//! Every number of every form at its greatest, and of as many digits as a number may
+//! have and one more.
 
 use super::{accepted, refused, BoundaryJob};
 

@@ -106,10 +106,9 @@ pub(super) fn with_bounds_among_areas(job: Job) -> Job {
     };
     let mut areas: Vec<u64> = (0..3000).map(|_| area()).collect();
     areas.sort_unstable();
-    let bound = |area: u64| 10_000 * area / (job.window * job.window);
     Job {
-        lower: bound(areas[1000]),
-        upper: bound(areas[2000]),
+        lower: job.bound_at(areas[1000]),
+        upper: job.bound_at(areas[2000]),
         ..job
     }
 }
