@@ -20,8 +20,9 @@ use Rattle.jobfile.specs.File.{readLines, outcomeOf}
 use Rattle.unit.specs.Answering.{answerFor, textOf}
 use Rattle.cases.specs.Row.{foundIn, statedIn}
 use Rattle.cases.specs.Printing.{printedLines}
+use Rattle.cases.specs.Ranges.{printsEach, refusals}
 use Rattle.cases.specs.Table.{table}
 
 pub cases : foundIn table ≡ statedIn table
-unfolding rounded sum rectSum covered bestInRow bestInRows extreme levelOf levelAt runFrom quickRun trailingZeros clearOfAll clearOfAllBefore failingInRow failingInRows standardFailing marginFailing bytes pieces decimal decimalIn digitsOf pastDigits valueFrom sameBytes spell readAs oneGapPattern twoGapsPattern rectPattern dummyPattern fillPattern endPattern formOf shapeFault fillFault lineFault standsAfter readLines outcomeOf answerFor textOf printedLines
+unfolding rounded sum rectSum covered bestInRow bestInRows extreme levelOf levelAt runFrom quickRun trailingZeros clearOfAll clearOfAllBefore failingInRow failingInRows standardFailing marginFailing bytes pieces decimal decimalIn digitsOf pastDigits valueFrom sameBytes spell readAs oneGapPattern twoGapsPattern rectPattern dummyPattern fillPattern endPattern formOf shapeFault fillFault lineFault standsAfter readLines outcomeOf answerFor textOf printedLines printsEach refusals
 cases = refl
