@@ -1,4 +1,6 @@
 // What a job is answered, and its six lines, written by pattern into a lent buffer.
+#![tactic(auto)]
+
 ghost use Rattle.std.specs.Prelude.{◌+◌, ◌*◌, ◌≤◌, ◌++◌, length};
 ghost use Rattle.spelling.specs.Pattern.{spell};
 ghost use Rattle.answers.specs.Lines.{exact_line, zoom_word, end_word, level_part, zoom_line, density_line, positions_line, bound_word, failing_start, verdict_line, text_of};
@@ -17,7 +19,7 @@ use zoom::{End, Quick};
 pub const ANSWER_ROOM: usize = 200 + 208 + 208 + 40 + 80 + 72;
 
 // The shapes under each window that an answer names, by the word it stands after.
-#[derive(Drop)]
+#[derive(Clone, Copy)]
 pub struct Counts {
     pub max: u64,
     pub min: u64,
@@ -26,7 +28,7 @@ pub struct Counts {
 }
 
 // What an accepted job is answered, before it is written as text.
-#[derive(Drop)]
+#[derive(Clone, Copy)]
 pub struct Answer {
     pub exact: Extremes, // the exact run
     pub greatest: Quick, // the quick run for the greatest window

@@ -1,4 +1,6 @@
 // How many window positions have less than an area.
+#![tactic(auto)]
+
 use geometry::Rect;
 use straight::Corners;
 
@@ -11,28 +13,28 @@ mod settling;
 pub use halving::count_below;
 
 // What is counted: positions whose window of this side has less than this area.
-#[derive(Drop)]
+#[derive(Clone, Copy)]
 pub struct Threshold {
     pub window: u64,
     pub area: u64,
 }
 
 // A box of positions with what the settled rectangles add to the windows at its corners.
-#[derive(Drop)]
+#[derive(Clone, Copy)]
 struct Patch {
     extent: Rect,
     corners: Corners,
 }
 
 // What is left for a box: how many rectangles, and the corners by all others.
-#[derive(Drop)]
+#[derive(Clone, Copy)]
 struct Rest {
     count: usize,
     corners: Corners,
 }
 
 // The two parts of a box, and the rectangles that are left for either.
-#[derive(Drop)]
+#[derive(Clone, Copy)]
 struct Halves {
     count: usize,
     before: Patch,
@@ -40,21 +42,21 @@ struct Halves {
 }
 
 // The positions of a box below the threshold, where they are known without a cut.
-#[derive(Drop)]
+#[derive(Clone, Copy)]
 enum Known {
     Open,
     Counted(u64),
 }
 
 // What becomes of a box: it is counted whole, or cut in two.
-#[derive(Drop)]
+#[derive(Clone, Copy)]
 enum Outcome {
     Whole(u64),
     Halved(Halves),
 }
 
 // The axis along which a box is cut where it can be.
-#[derive(Drop)]
+#[derive(Clone, Copy)]
 enum Axis {
     Across,
     Down,

@@ -1,5 +1,7 @@
 // Files at the limits that document 01 asks to be run, with dummies among the shapes
 // too, and at the ends of the ranges of numbers: what the program prints for each.
+#![tactic(auto)]
+
 use libc::STDOUT_FILENO;
 
 // Prints what the program prints for a file.

@@ -1,5 +1,7 @@
 // The program: a job file on standard input, its answer or its refusal on
 // standard output.
+#![tactic(auto)]
+
 use libc::{STDIN_FILENO, STDOUT_FILENO};
 
 // A file that fills the buffer is longer than any that is accepted, so no more

@@ -5,6 +5,8 @@
 // windows reach. The first extreme is among them, so the work is set by the number
 // of rectangles and not by coordinates. Along a row the area is carried from one
 // window to the next.
+#![tactic(auto)]
+
 mod listing;
 mod searching;
 
@@ -24,7 +26,7 @@ use sweep::STRIP_ROOM;
 const CANDIDATES_ROOM: usize = 2 * MOST_RECTS + 2;
 
 // The exact run's answer: the greatest and the least window.
-#[derive(Drop)]
+#[derive(Clone, Copy)]
 pub struct Extremes {
     pub greatest: Spot,
     pub least: Spot,

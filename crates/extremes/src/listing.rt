@@ -60,7 +60,7 @@ fn add_rect(out: &mut [u64], count: usize, near: u64, far: u64, w: u64, last: u6
 // What the rows that are tried are listed by: the sides of a rectangle that the
 // window's lower and upper edges meet, by their places in a table, the window's
 // side, and the last position.
-#[derive(Drop)]
+#[derive(Clone, Copy)]
 struct ListedBy {
     near: usize,
     far: usize,

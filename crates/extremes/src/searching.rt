@@ -47,7 +47,7 @@ fn leading_of(sense: Sense, old: Spot, new: Spot) -> Spot
 
 // A row of windows: the sense of the extreme, the window's side, the last
 // position, and the row's y.
-#[derive(Drop)]
+#[derive(Clone, Copy)]
 pub(crate) struct Row {
     pub sense: Sense,
     pub w: u64,
@@ -57,7 +57,7 @@ pub(crate) struct Row {
 
 // What stands after a window was tried, and the window as a box in the strip, from
 // which the next one is reached.
-#[derive(Drop)]
+#[derive(Clone, Copy)]
 struct Tried {
     frame: Frame,
     best: Spot,

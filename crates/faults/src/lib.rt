@@ -1,4 +1,6 @@
 // The faults of one line, by what already stands.
+#![tactic(auto)]
+
 ghost use Rattle.std.specs.Prelude.{◌≡◌, true, [], take};
 ghost use Rattle.forms.specs.Limits.{unit_limits};
 ghost use Rattle.forms.specs.Forms.{tile_count, agrees};

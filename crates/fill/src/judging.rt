@@ -12,7 +12,7 @@ use tiles::tiles_load;
 
 // What the loads of tiles are judged by: the tiles across the layout and across a
 // window, and 10,000 times the least and the greatest load of a window.
-#[derive(Drop)]
+#[derive(Clone, Copy)]
 pub(crate) struct Rule {
     pub across: u64,
     pub cut: u64,

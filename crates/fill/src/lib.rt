@@ -1,4 +1,6 @@
 // The verdict on a planned fill.
+#![tactic(auto)]
+
 ghost use Rattle.std.specs.Prelude.{◌≡◌};
 ghost use Rattle.geometry.specs.Layout.{rects_of};
 ghost use Rattle.sweep.specs.Strips.{Swept};
@@ -10,14 +12,14 @@ mod judging;
 use tiles::{Plan, TILES_ROOM, set_loads, sum_rows};
 
 // The bound that a window fails: over says that U fails, under that L does.
-#[derive(Drop)]
+#[derive(Clone, Copy)]
 pub enum Bound {
     Over,
     Under,
 }
 
 // A failing tile start, by its column and row, and the bound that it fails.
-#[derive(Drop)]
+#[derive(Clone, Copy)]
 pub enum Failing {
     Nowhere,
     At(Bound, u64, u64),
@@ -25,7 +27,7 @@ pub enum Failing {
 
 // The verdict on a fill. Broken and undecided name the bound that fails first,
 // and the tile column and row of the start where it does.
-#[derive(Drop)]
+#[derive(Clone, Copy)]
 pub enum Verdict {
     Safe,
     Broken(Bound, u64, u64),

@@ -1,5 +1,7 @@
 // The forms of the job file: what each line may say, and what is asked of it by
 // itself, or by the head alone.
+#![tactic(auto)]
+
 mod gaps;
 mod known;
 mod layout;
@@ -15,14 +17,14 @@ pub use ranges::in_range;
 
 // What the head says of the least gap between fill and metal: (gap B), the same for
 // drawn metal and for dummies, or (gap B D), B for drawn metal and D for dummies.
-#[derive(Drop)]
+#[derive(Clone, Copy)]
 pub enum Gap {
     Both(u64),
     Each(u64, u64),
 }
 
 // The numbers of the head, in the order of their spelling.
-#[derive(Drop)]
+#[derive(Clone, Copy)]
 pub struct Head {
     pub size: u64, // N, the side of the layout
     pub window: u64, // W, the side of the window
@@ -35,21 +37,21 @@ pub struct Head {
 }
 
 // Metal that is drawn, or a dummy of an earlier pass.
-#[derive(Drop)]
+#[derive(Clone, Copy)]
 pub enum Kind {
     Drawn,
     Dummy,
 }
 
 // A rectangle of metal, with its kind.
-#[derive(Drop)]
+#[derive(Clone, Copy)]
 pub struct Shape {
     pub kind: Kind,
     pub rect: Rect,
 }
 
 // What a line spells. Unknown is a line that is none of the spellings.
-#[derive(Drop)]
+#[derive(Clone, Copy)]
 pub enum Form {
     Unknown,
     Heading(Head),

@@ -1,4 +1,6 @@
 // The free squares of a box: those that no region of a table holds.
+#![tactic(auto)]
+
 ghost use Rattle.std.specs.Prelude.{◌≡◌};
 ghost use Rattle.spacing.specs.Sizes.{SmallBox, SmallTable};
 ghost use Rattle.free.specs.Free.{free_in, Serves, Fillable};
@@ -11,7 +13,7 @@ mod live;
 mod parts;
 
 // A part of a table of regions, from one place to before another.
-#[derive(Drop)]
+#[derive(Clone, Copy)]
 pub struct Part {
     pub from: usize,
     pub to: usize,
@@ -19,14 +21,14 @@ pub struct Part {
 
 // What is left of a list of regions for a box: one of them covers it, or so many
 // are enough.
-#[derive(Drop)]
+#[derive(Clone, Copy)]
 enum Kept {
     Covered,
     Left(usize),
 }
 
 // The free squares of a box, where they are known without a cut.
-#[derive(Drop)]
+#[derive(Clone, Copy)]
 enum Settled {
     Open,
     Area(u64),

@@ -1,6 +1,8 @@
 // Rectangles, the covered area of a box and the shapes under it, what a search for
 // an extreme finds, and boxes that are cut in two.
 
+#![tactic(auto)]
+
 ghost use Rattle.std.specs.Prelude.{◌+◌, ◌-◌, ◌*◌, ◌^◌, ◌≤◌, ◌<◌, min, max, ◌≡◌, length};
 ghost use Rattle.geometry.specs.Sizes.{SmallRect};
 ghost use Rattle.geometry.specs.Count.{one_if};
@@ -17,7 +19,7 @@ pub const MOST_RECTS: usize = 1024;
 
 // The unit squares from x1 to before x2 and from y1 to before y2: a
 // rectangle of metal, a window, a tile.
-#[derive(Drop)]
+#[derive(Clone, Copy)]
 pub struct Rect {
     pub x1: u64,
     pub y1: u64,
@@ -26,14 +28,14 @@ pub struct Rect {
 }
 
 // Where a box is cut in two.
-#[derive(Drop)]
+#[derive(Clone, Copy)]
 pub enum Cut {
     Column(u64),
     Row(u64),
 }
 
 // Lines that a box may be cut at, one on each axis; its low side where there is none.
-#[derive(Drop)]
+#[derive(Clone, Copy)]
 pub struct Lines {
     pub column: u64,
     pub row: u64,
@@ -41,14 +43,14 @@ pub struct Lines {
 
 // The metal in a box: the covered area, and how many rectangles share a unit
 // square with it.
-#[derive(Drop)]
+#[derive(Clone, Copy)]
 pub struct Cover {
     pub area: u64,
     pub shapes: u64,
 }
 
 // A window, named by its lower left corner, with its area.
-#[derive(Drop)]
+#[derive(Clone, Copy)]
 pub struct Spot {
     pub area: u64,
     pub x: u64,
@@ -56,7 +58,7 @@ pub struct Spot {
 }
 
 // Which extreme is looked for.
-#[derive(Drop)]
+#[derive(Clone, Copy)]
 pub enum Sense {
     Greatest,
     Least,

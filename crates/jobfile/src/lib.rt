@@ -1,4 +1,6 @@
 // The job file: its reader.
+#![tactic(auto)]
+
 mod reader;
 
 ghost use Rattle.std.specs.Prelude.{◌≡◌};
@@ -27,7 +29,7 @@ pub struct Job {
 
 // What reading a line comes to: its fault or 0, its length with its line feed,
 // and what stands then.
-#[derive(Drop)]
+#[derive(Clone, Copy)]
 struct Step {
     fault: u64,
     used: usize,
@@ -36,7 +38,7 @@ struct Step {
 
 // What reading all lines comes to: number and line of the first fault, both 0
 // where there is none, and what stands then.
-#[derive(Drop)]
+#[derive(Clone, Copy)]
 struct Ending {
     fault: u64,
     line: u64,

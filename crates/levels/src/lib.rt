@@ -1,5 +1,7 @@
 // One level of a quick run: the window that it names, its limit and the starts that it
 // keeps, and a flag for each start that the next level may pass over.
+#![tactic(auto)]
+
 mod flags;
 mod passes;
 mod spans;
@@ -24,7 +26,7 @@ pub const MOST_FLAGS: usize = 505 * 505;
 // of a shrunk one for the least; and the number of starts whose far area is
 // better than the best standard one. The area named and the limit are printed
 // as floor and ceiling for the greatest, as high and low for the least.
-#[derive(Drop)]
+#[derive(Clone, Copy)]
 pub struct Level {
     pub named: Spot,
     pub limit: u64,
@@ -35,7 +37,7 @@ pub struct Level {
 // is, the layout's side n, the window's side w, the step t between starts, the
 // number of starts on an axis, and how many flags a row of the level before has.
 // The paper calls the step a tile side; the fill has other tiles.
-#[derive(Drop)]
+#[derive(Clone, Copy)]
 pub struct Grid {
     pub sense: Sense,
     pub pass: Pass,
@@ -49,7 +51,7 @@ pub struct Grid {
 // The two passes of a level: over the standard windows, which name its window, and
 // over the far ones, bloated or shrunk, which give its limit, the starts kept and
 // the flags for the next level.
-#[derive(Drop)]
+#[derive(Clone, Copy)]
 pub enum Pass {
     Standard,
     Far,

@@ -1,4 +1,6 @@
 // The form that a line of a job file spells.
+#![tactic(auto)]
+
 ghost use Rattle.std.specs.Prelude.{◌≡◌, ◌+◌, ◌<◌};
 ghost use Rattle.spelling.specs.Scanning.{most_values};
 ghost use Rattle.forms.specs.Limits.{unit_limits};

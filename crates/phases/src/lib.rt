@@ -1,5 +1,7 @@
 // The phases of a job by themselves, for the benchmark. Each gives one number of
 // the answer, so that no phase can be left out.
+#![tactic(auto)]
+
 ghost use Rattle.std.specs.Prelude.{◌≡◌};
 ghost use Rattle.geometry.specs.Layout.{rects_of};
 ghost use Rattle.forms.specs.Limits.{unit_limits};

@@ -1,5 +1,7 @@
 // How many window positions lie under the lower bound, within, and over the upper
 // one.
+#![tactic(auto)]
+
 ghost use Rattle.std.specs.Prelude.{◌≡◌};
 ghost use Rattle.geometry.specs.Layout.{rects_of};
 ghost use Rattle.positions.specs.Tallies.{tally_of};
@@ -7,7 +9,7 @@ ghost use Rattle.positions.specs.Sizes.{Tallied};
 
 // The window positions of a job by the bounds: those that fail the lower one, those
 // that keep both, and those that fail the upper one.
-#[derive(Drop)]
+#[derive(Clone, Copy)]
 pub struct Tally {
     pub under: u64,
     pub within: u64,

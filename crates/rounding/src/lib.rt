@@ -1,4 +1,6 @@
 // Quotients rounded to the nearest whole number, in whole numbers.
+#![tactic(auto)]
+
 ghost use Rattle.std.specs.Prelude.{◌≤◌, ◌≡◌};
 ghost use Rattle.rounding.specs.Nearest.{rounded};
 

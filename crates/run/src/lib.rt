@@ -1,4 +1,6 @@
 // The phases of a job in turn: the answer's numbers.
+#![tactic(auto)]
+
 ghost use Rattle.std.specs.Prelude.{◌≡◌};
 ghost use Rattle.geometry.specs.Layout.{rects_of, Layer};
 ghost use Rattle.sweep.specs.Strips.{Swept};

@@ -1,5 +1,7 @@
 // What shapes keep free of fill: regions with round corners, and how they lie to a box
 // of squares.
+#![tactic(auto)]
+
 ghost use Rattle.std.specs.Prelude.{suc, ◌*◌, ◌≤◌, ◌≡◌};
 ghost use Rattle.geometry.specs.Sizes.{widest};
 ghost use Rattle.spacing.specs.Eligible.{tile};
@@ -17,14 +19,14 @@ pub use quarter::{held_area, is_quarter};
 pub use regions::{REGION_NUMBERS, keep_out, outline, region_at};
 
 // A shape as fill sees it: its rectangle, and the least gap between it and fill.
-#[derive(Drop)]
+#[derive(Clone, Copy)]
 pub struct Keepout {
     pub rect: Rect,
     pub gap: u64,
 }
 
 // All places nearer to a core than a reach, by straight distance.
-#[derive(Drop)]
+#[derive(Clone, Copy)]
 pub struct Region {
     pub core: Rect,
     pub reach: u64,

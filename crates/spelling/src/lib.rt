@@ -1,4 +1,6 @@
 // Lines by pattern: the one speller that reads job lines and writes answer lines.
+#![tactic(auto)]
+
 ghost use Rattle.std.specs.Prelude.{◌≡◌, false, ◌&&◌, ◌+◌, ◌≤◌, ◌<◌, ltb, length, drop};
 ghost use Rattle.std.proofs.Math.Option.{none};
 ghost use Rattle.spelling.specs.Scanning.{most_values, digits_room, places, as_reading, digit_first, as_numeral, line_length};
@@ -11,7 +13,7 @@ pub const MOST_VALUES: usize = 9;
 
 // What reading a line against a pattern gives: whether the line is the
 // pattern's, and its numbers in order, 0 behind them.
-#[derive(Drop)]
+#[derive(Clone, Copy)]
 pub struct Reading {
     pub ok: bool,
     pub values: [u64; MOST_VALUES],
@@ -19,7 +21,7 @@ pub struct Reading {
 
 // What reading a number gives: whether one stands there, its value, and the
 // place after it.
-#[derive(Drop)]
+#[derive(Clone, Copy)]
 struct Numeral {
     ok: bool,
     value: u64,

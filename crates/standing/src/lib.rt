@@ -1,5 +1,7 @@
 // What stands while a job file is read, a good line entered, and what fill is told of
 // it.
+#![tactic(auto)]
+
 mod filling;
 mod held;
 mod parts;
@@ -13,7 +15,7 @@ pub use parts::part_for;
 pub use rooms::{AMOUNTS_ROOM, REGIONS_ROOM, SHAPES_ROOM};
 
 // What a file has come to: nothing yet, its shapes, its fills, its end.
-#[derive(Drop)]
+#[derive(Clone, Copy)]
 pub enum Turn {
     Before,
     Shapes,
@@ -23,14 +25,14 @@ pub enum Turn {
 
 // The part of the table of regions that is enough for a row of tiles, that of the
 // last fill: most fills come row by row.
-#[derive(Drop)]
+#[derive(Clone, Copy)]
 pub enum Near {
     NoRow,
     Row(u64, Part),
 }
 
 // What stands while a file is read, beside the tables.
-#[derive(Drop)]
+#[derive(Clone, Copy)]
 pub struct State {
     pub turn: Turn,
     pub head: Head,

@@ -5,6 +5,8 @@
 // of the low sides less those of the high sides, so what a box covers is four
 // such sums, and each is carried along: from one column to a later one only the
 // sides that lie between are added.
+#![tactic(auto)]
+
 mod cursors;
 mod ordering;
 mod strips;
@@ -25,7 +27,7 @@ pub const ORDER_ROOM: usize = 2 * MOST_RECTS;
 pub const STRIP_ROOM: usize = 4 * MOST_RECTS;
 
 // The upright sides of a rectangle.
-#[derive(Drop)]
+#[derive(Clone, Copy)]
 pub enum Side {
     Low,
     High,
@@ -34,7 +36,7 @@ pub enum Side {
 // Where a sum over the sides of a strip stands, at some column: how many numbers
 // of the list are of sides left of it, the sum of their rows and the sum of rows ×
 // column, which are carried along; and the sum of their ramps, which these give.
-#[derive(Drop)]
+#[derive(Clone, Copy)]
 pub struct Cursor {
     pub passed: usize,
     pub rows: u64,
@@ -43,7 +45,7 @@ pub struct Cursor {
 }
 
 // The cursors over one list of sides at both edges of a box.
-#[derive(Drop)]
+#[derive(Clone, Copy)]
 pub struct Edges {
     pub left: Cursor,
     pub right: Cursor,
@@ -51,7 +53,7 @@ pub struct Edges {
 
 // A box in a strip, from the column `left` to before `right`: its covered area,
 // and the cursors over low and over high sides at its edges.
-#[derive(Drop)]
+#[derive(Clone, Copy)]
 pub struct Frame {
     pub left: u64,
     pub right: u64,
@@ -61,7 +63,7 @@ pub struct Frame {
 }
 
 // How many numbers a strip has: those of its low sides, and of both kinds.
-#[derive(Drop)]
+#[derive(Clone, Copy)]
 pub struct Lengths {
     pub low: usize,
     pub both: usize,

@@ -1,4 +1,6 @@
 // The loads of all tiles of a layout, and the load of any box of tiles.
+#![tactic(auto)]
+
 mod corners;
 mod tiling;
 
@@ -13,7 +15,7 @@ pub const TILES_ROOM: usize = MOST_ACROSS * MOST_ACROSS;
 
 // What a fill is judged by: how the layout is cut into tiles, and the bounds on
 // the density of its windows, in ten-thousandths.
-#[derive(Drop)]
+#[derive(Clone, Copy)]
 pub struct Plan {
     pub across: u64, // tiles across the layout
     pub cut: u64, // tiles across a window

@@ -1,4 +1,6 @@
 // The density unit: from a job file's bytes to the answer's bytes.
+#![tactic(auto)]
+
 mod render;
 
 ghost use Rattle.std.specs.Prelude.{◌^◌, ◌<◌, ◌≡◌, length};
@@ -11,7 +13,7 @@ use render::render;
 
 // What the unit replies: the answer's length, or the number and line of the
 // fault that the job was refused for.
-#[derive(Drop)]
+#[derive(Clone, Copy)]
 pub enum Reply {
     Accepted(u64),
     Refused(u64, u64),

@@ -14,7 +14,7 @@ use run::run;
 
 // What rendering a file gives: number and line of its fault, or the length of
 // its answer.
-#[derive(Drop)]
+#[derive(Clone, Copy)]
 pub(crate) struct Rendered {
     pub fault: u64,
     pub line: u64,

@@ -1,4 +1,6 @@
 // The quick run: a bracket of an extreme window area, level by level.
+#![tactic(auto)]
+
 mod ending;
 
 ghost use Rattle.std.specs.Prelude.{◌≡◌, replicate};
@@ -13,7 +15,7 @@ use levels::{Grid, Level, MOST_FLAGS, Pass, flag_count, search_level, starts_on}
 
 // What is asked of a quick run: the layout's side N, the window's side W, the
 // accuracy E and the levels allowed, V.
-#[derive(Drop)]
+#[derive(Clone, Copy)]
 pub struct Asked {
     pub size: u64,
     pub window: u64,
@@ -22,7 +24,7 @@ pub struct Asked {
 }
 
 // How a quick run ended.
-#[derive(Drop)]
+#[derive(Clone, Copy)]
 pub enum End {
     Met,
     Stopped,
@@ -31,7 +33,7 @@ pub enum End {
 
 // What the quick run answers: how it ended, the levels done and the numbers of
 // the last one.
-#[derive(Drop)]
+#[derive(Clone, Copy)]
 pub struct Quick {
     pub end: End,
     pub done: u64,
@@ -39,7 +41,7 @@ pub struct Quick {
 }
 
 // What follows a level: the answer of a run that is over, or a deeper level.
-#[derive(Drop)]
+#[derive(Clone, Copy)]
 enum Next {
     Ended(Quick),
     Deeper,

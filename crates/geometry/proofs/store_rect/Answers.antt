@@ -1,0 +1,13 @@
+-- `geometry::store_rect` meets its contract. Each store keeps the length. Assumes nothing.
+use native.Mathlib.Omega.{arith}
+use lib.ListN.{length-set}
+use Rattle.geometry.proofs.store_rect.Goals as goal
+
+pub bounds-table-at-2 : goal.bounds-table-at-2
+bounds-table-at-2 c = simp length-set (omega arith)
+
+pub bounds-table-at-3 : goal.bounds-table-at-3
+bounds-table-at-3 c = simp length-set (omega arith)
+
+pub bounds-table-at-4 : goal.bounds-table-at-4
+bounds-table-at-4 c = simp length-set (omega arith)
