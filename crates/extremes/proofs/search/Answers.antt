@@ -19,7 +19,7 @@ pub loop-i-preserved : goal.loop-i-preserved
 loop-i-preserved c = let at = c.loop-i in
     let more = c.loop-i-test.true in
     let row = c.search_row-best in
-    (omega arith, row.auto.1.1.1.1.0 ∙ at.invariant.1, folded_next _ _ _ _ _ at.invariant.2 _ more row.ensures)
+    (omega arith, row.auto.sides ∙ at.invariant.1, folded_next _ _ _ _ _ at.invariant.2 _ more row.ensures)
 
 pub slice_bounds-search_row-end : goal.slice_bounds-search_row-end
 slice_bounds-search_row-end c = sym c.loop-i.invariant.1

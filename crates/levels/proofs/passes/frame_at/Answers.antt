@@ -18,4 +18,4 @@ move_to-requires c = let from = c.span_from-left.ensures in
 
 pub returns : goal.returns
 returns c = let a = c.args in
-    let moved = c.move_to.ensures in record { value = frame_moved a.lows.now a.highs.now a.g a.u a.i _ _ _ c.span_from-left.ensures c.span_to-right.ensures moved.0; true_area = moved.1 }
+    let moved = c.move_to.ensures in record { value = frame_moved a.lows.now a.highs.now a.g a.u a.i _ _ _ c.span_from-left.ensures c.span_to-right.ensures moved.value; true_area = moved.true_area }

@@ -41,10 +41,10 @@ loop-j-preserved c = let a = c.args in
     let lent = c.row_strip-lengths in
     let row = c.row-so_far.ensures in (
       omega (arith, within),
-      lent.auto.1.1.1.1.0 ∙ at.invariant.1,
+      lent.auto.out ∙ at.invariant.1,
       passes_advance a.g.pass _ _ _ _ _ _ _ _ _ at.invariant.2 _ _
-          (row.0 ∙ row_by_strip a.rects.now a.g at.j z within _ _ lent.ensures.lent at.so_far)
-          (row.1 ∙ flags_by_strip a.rects.now a.g at.j z within _ _ lent.ensures.lent _ _ _),
+          (row.value ∙ row_by_strip a.rects.now a.g at.j z within _ _ lent.ensures.lent at.so_far)
+          (row.after ∙ flags_by_strip a.rects.now a.g at.j z within _ _ lent.ensures.lent _ _ _),
     )
 
 pub returns : goal.returns
@@ -57,7 +57,7 @@ pub slice_bounds-row_strip-end : goal.slice_bounds-row_strip-end
 slice_bounds-row_strip-end c = sym c.loop-j.invariant.1
 
 pub slice_bounds-strip-end : goal.slice_bounds-strip-end
-slice_bounds-strip-end c = sym (c.row_strip-lengths.auto.1.1.1.1.0 ∙ c.loop-j.invariant.1)
+slice_bounds-strip-end c = sym (c.row_strip-lengths.auto.out ∙ c.loop-j.invariant.1)
 
 pub slice_bounds-row-end : goal.slice_bounds-row-end
 slice_bounds-row-end c = search low_count

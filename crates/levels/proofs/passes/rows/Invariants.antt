@@ -10,7 +10,7 @@ use Rattle.levels.proofs.passes.rows.Given as goal
 
 abbrev pub invariant-loop-j : goal.invariant-loop-j
 invariant-loop-j l = (l.j ≤ l.g.starts) × (length l.sides ≡ strip_room)
-    × PassesSoFar l.g.pass l.g.sense (area_on l.g l.rects) l.g.t l.g.starts l.j so-far₀ l.so_far l.initial.new l.new
+    × PassesSoFar l.g.pass l.g.sense (area_on l.g l.rects) l.g.t l.g.starts l.j l.initial.so_far l.so_far l.initial.new l.new
 
 abbrev pub decreases-loop-j : goal.decreases-loop-j
 decreases-loop-j l = l.g.starts - l.j
