@@ -11,9 +11,9 @@ weigh-requires c = subst (λ (p : Pass). Lookable p c.args.sense kept_room c.arg
 
 pub returns-in-Standard : goal.returns-in-Standard
 returns-in-Standard c = let a = c.args in
-let both = look_standard a.pass a.sense a.before a.seen a.at a.new.now _ c.in-Standard.is c.better_of-named.ensures in record { value = both.0; after = both.1 }
+    let both = look_standard a.pass a.sense a.before a.seen a.at a.new.now _ c.in-Standard.is c.better_of-named.ensures in record { value = both.0; after = both.1 }
 
 pub returns-in-Far : goal.returns-in-Far
 returns-in-Far c = let a = c.args in
     let w = c.weigh in
-let both = look_far a.pass a.sense a.before a.seen a.at a.new.now _ _ c.in-Far.is w.ensures.value w.ensures.after in record { value = both.0; after = both.1 }
+    let both = look_far a.pass a.sense a.before a.seen a.at a.new.now _ _ c.in-Far.is w.ensures.value w.ensures.after in record { value = both.0; after = both.1 }
