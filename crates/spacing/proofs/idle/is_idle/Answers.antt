@@ -9,12 +9,12 @@ use Rattle.spacing.proofs.Gains.{not_beside, not_above, idle_told, gain_fits}
 use Rattle.spacing.proofs.idle.is_idle.Goals as goal
 
 pub returns-then-not-same_side : goal.returns-then-not-same_side
-returns-then-not-same_side c = let a = c.args in not_beside a.t a.c a.b _ c.same_side.ensures (not-true _ c.if-not-same_side.true)
+returns-then-not-same_side c = let a = c.args in not_beside a.t a.c a.b _ c.same_side.ensures c.if-not-same_side.true
 
 pub returns-then-not-same_side-2 : goal.returns-then-not-same_side-2
 returns-then-not-same_side-2 c = let a = c.args in
-    not_above a.t a.c a.b _ c.same_side.ensures (not-false _ c.if-not-same_side.false) _ c.same_side-2.ensures
-    (not-true _ c.if-not-same_side-2.true)
+    not_above a.t a.c a.b _ c.same_side.ensures c.if-not-same_side.false _ c.same_side-2.ensures
+    c.if-not-same_side-2.true
 
 pub least_gain-across-requires : goal.least_gain-across-requires
 least_gain-across-requires c = record { order = c.requires.small_box.across; end = c.requires.small_box.right; first = c.requires.small_region.left; second = c.requires.small_region_2.left }
@@ -32,8 +32,8 @@ module _ (c : tie.After-least-gain2) where
 
 pub returns : goal.returns
 returns c = let a = c.args in
-    idle_told a.t a.c a.b _ c.same_side.ensures (not-false _ c.if-not-same_side.false) _ c.same_side-2.ensures
-    (not-false _ c.if-not-same_side-2.false) _ _ c.least_gain-across.ensures c.least_gain-down.ensures
+    idle_told a.t a.c a.b _ c.same_side.ensures c.if-not-same_side.false _ c.same_side-2.ensures
+    c.if-not-same_side-2.false _ _ c.least_gain-across.ensures c.least_gain-down.ensures
 
 pub overflow_mul-result : goal.overflow_mul-result
 overflow_mul-result c = omega (arith, square_le c.args.t.reach longest (omega (arith, c.requires.small_region.near)))
