@@ -84,6 +84,7 @@ module _ (s : Sense) (step : ℕ → Spot → Spot) (before : (p : ℕ) (b : Spo
 
   folded_tried : (l : List ℕ) (b a : Spot) (p : ℕ) → Memᴰ p l → ((b : Spot) → Ahead s (step p b) a) → Ahead s (folded step l b) a
   unfolding folded
+  folded_tried [] b a p m h = elim m [ ]
   folded_tried (q ∷ l) b a p (Memᴰ.head e) h = ahead_trans s _ _ _ (folded_before l (step q b)) (rw e at (h b))
   folded_tried (q ∷ l) b a p (Memᴰ.tail m) h = folded_tried l (step q b) a p m h
 

@@ -44,6 +44,7 @@ at_other q v h e = rw (ne_eqb v q e) (omega arith)
 meets_weight : (low high weight : Rect → ℕ) (w p : ℕ) (rs : List Rect) → Meets low high weight w p rs →
     (0 < rect_sum rs (λ r. at p (low r) (weight r))) ⊎ (0 < rect_sum rs (λ r. at (p + w) (high r) (weight r)))
 unfolding rect_sum
+meets_weight low high weight w p [] m = elim m [ ]
 meets_weight low high weight w p (r ∷ rs) (low_edge e z) = inl (omega (arith, at_here p (low r) (weight r) e))
 meets_weight low high weight w p (r ∷ rs) (high_edge e z) = inr (omega (arith, at_here (p + w) (high r) (weight r) e))
 meets_weight low high weight w p (r ∷ rs) (further m) = go (meets_weight low high weight w p rs m)

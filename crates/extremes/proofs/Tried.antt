@@ -94,6 +94,7 @@ module _ (near far last w : ℕ) where
 
   sides_met : (weight : Rect → ℕ) (rs : List Rect) (l : List ℕ) (p : ℕ) → p ≤ last → Meets (side near) (side far) weight w p rs → Memᴰ p (with_sides near far last w rs l)
   unfolding with_sides
+  sides_met weight [] l p h m = elim m [ ]
   sides_met weight (r ∷ rs) l p h (low_edge e z) =
       sides_kept rs _ (end_kept last w (side far r) _ (Memᴰ.cast (sym e) (position_added last (side near r) l (omega arith))))
   sides_met weight (r ∷ rs) l p h (high_edge e z) = sides_kept rs _ (end_added last w (side far r) _ p e h)

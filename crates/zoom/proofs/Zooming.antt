@@ -120,11 +120,8 @@ module _ (s : Sense) (e v z j : ℕ) (this : Level) (m : Spot) (met : Bool) (tes
 
 -- the first k numbers of a table, copied over those of another
 copied : (from to out : List ℕ) (k : ℕ) → k ≤ length from →
-    out ≡ take (length (take k from)) (take k from) ++ drop (length (take k from)) to → out ≡ take k from ++ drop k to
-copied from to out k h e =
-    e
-    ∙ ap (λ (n : ℕ). take n (take k from) ++ drop n to) (length-take-le k from h)
-    ∙ ap (λ (l : List ℕ). l ++ drop k to) (take-take k k from (omega arith))
+    out ≡ take k from ++ drop (length (take k from)) to → out ≡ take k from ++ drop k to
+copied from to out k h e = e ∙ ap (λ (n : ℕ). take k from ++ drop n to) (length-take-le k from h)
 
 -- what is harmless by a level's flags is harmless by as many of them as the level has, or as the table has room for
 module _ (s : Sense) (rs : List Rect) (n w t best : ℕ) (from to out : List ℕ) (stride k : ℕ) (p : 1 ≤ t) (counted : stride ≡ starts_on n w (2 * t))
@@ -207,7 +204,7 @@ module _ (s : Sense) (rs : List Rect) (n w e v z : ℕ) (old new : List ℕ) (be
 
   pub run_goes_on : (this : Level) (m : Spot) (after : Next) (old' new' : List ℕ) (stride' used : ℕ) → n ≤ widest →
       LevelDone s rs n w t before this new new' → m ≡ extreme s rs n w → after ≡ next_after s e v z j this m → after ≡ Deeper → length new' ≡ length new →
-      old' ≡ take (length (take used new')) (take used new') ++ drop (length (take used new')) old → length old' ≡ length old → stride' ≡ starts_on n w t →
+      old' ≡ take used new' ++ drop (length (take used new')) old → length old' ≡ length old → stride' ≡ starts_on n w t →
       used ≡ min (stride' * stride') flags_room →
       RunSoFar s rs n w e v z old' new' this.named stride' (t / 2) (j + 1)
   run_goes_on this m after old' new' stride' used small d k l o size copy kept counted fits =

@@ -3,7 +3,7 @@
 
 mod ending;
 
-ghost use Rattle.std.specs.Prelude.{◌≡◌, replicate};
+ghost use Rattle.std.specs.Prelude.{◌≡◌, ◌≤◌, ◌++◌, drop, length, replicate};
 ghost use Rattle.geometry.specs.Layout.{rects_of};
 ghost use Rattle.levels.specs.Sizes.{flags_room};
 ghost use Rattle.zoom.specs.Run.{quick_run, density};
@@ -97,12 +97,20 @@ fn run_levels(
             return answer;
         }
         let used = flag_count(starts);
-        bytes::copy(&new[..used], old);
+        copy_front(&new[..used], old);
         before = this.named;
         stride = starts;
         t = t / 2;
         j += 1;
     }
+}
+
+// Copies bytes to the front of others.
+fn copy_front(from: &[u8], to: &mut [u8])
+    requires { length from.now ≤ length to.old }
+    ensures { to.new ≡ from.now ++ drop (length from.now) to.old }
+{
+    to[..from.len()].copy_from_slice(from);
 }
 
 // The density of a bracket, in ten-thousandths, rounded.

@@ -1,5 +1,4 @@
 -- The invariant: with the first line's length from i on, i is the first line's length.
-use Prim.Native.Nat.{◌-◌}
 use native.Mathlib.Nat.{zero-add}
 use borrow.Author.Rules.{rules}
 use Rattle.spelling.proofs.Lines.{found_feed, no_feed_yet, no_feed}

@@ -1,5 +1,5 @@
 -- The invariant: the numbers found so far, in front of what the rest of the pattern reads in the rest of the line, are what the whole reads.
-use Prim.Native.Nat.{◌-◌, ◌<◌}
+use Prim.Native.Nat.{◌<◌}
 use native.Mathlib.Omega.{arith}
 use Rattle.spelling.specs.Scanning.{most_values}
 use Rattle.spelling.proofs.Progress.{read_start, room, number_missing, number_read, line_short, byte_other, byte_read, bytes_left, all_read}

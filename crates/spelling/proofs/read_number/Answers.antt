@@ -1,5 +1,5 @@
 -- The invariant: the first `count` bytes are digits and stand for `value`; the digits that follow them complete the number.
-use Prim.Native.Nat.{◌+◌, ◌*◌, ◌^◌, ◌<◌, ◌-◌}
+use Prim.Native.Nat.{◌+◌, ◌*◌, ◌^◌, ◌<◌}
 use native.Mathlib.Omega.{arith}
 use borrow.Author.Rules.{rules}
 use Rattle.spelling.proofs.Digits.{counted_none, counted_more, counted_fits, counted_all, is_number, is_no_number, too_many}

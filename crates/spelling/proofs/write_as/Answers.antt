@@ -1,5 +1,5 @@
 -- The invariant: what the rest of the pattern spells with the numbers left, written where the loop has come to, makes the whole.
-use Prim.Native.Nat.{◌-◌, ◌<◌}
+use Prim.Native.Nat.{◌<◌}
 use native.Mathlib.Omega.{arith}
 use lib.ListN.{length}
 use Rattle.spelling.proofs.Writing.{write_start, number_left, number_fits, number_written, byte_fits, byte_written, all_written}
@@ -21,7 +21,7 @@ pub write_number-to-requires : goal.write_number-to-requires
 write_number-to-requires c = search number_fits
 
 pub overflow_add-k : goal.overflow_add-k
-overflow_add-k c = omega (arith, left c.before.before.before.before.before)
+overflow_add-k c = let h : c.loop-j.k < length c.args.values.now = search number_left in omega arith
 
 pub loop-j-preserved-then-takes_number : goal.loop-j-preserved-then-takes_number
 loop-j-preserved-then-takes_number c = search number_written

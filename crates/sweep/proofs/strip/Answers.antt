@@ -50,3 +50,6 @@ slice_bounds-sides_of-count-2 c = front_fits _ _ _ _ c.sides_of-low.ensures
 
 pub slice_bounds-sides_of-start-2 : goal.slice_bounds-sides_of-start-2
 slice_bounds-sides_of-start-2 c = front_fits _ _ _ _ c.sides_of-low.ensures
+
+pub slice_bounds-sides_of-start : goal.slice_bounds-sides_of-start
+slice_bounds-sides_of-start c = half_fits c.args.rects.now c.args.order.now c.requires.swept.ordered
