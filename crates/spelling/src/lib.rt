@@ -196,6 +196,7 @@ fn takes_number(c: u8, k: usize, count: usize) -> bool
 }
 
 // Writes a pattern with numbers at a place of a buffer, and returns the place after it.
+#[tactic(auto, using(crate::proofs::Writing::byte_fits))]
 pub fn write_as(pattern: &[u8], values: &[u64], out: &mut [u8], at: usize) -> usize
     requires { at + length (spell pattern.now values.now) ≤ length out.old }
     ensures { Written out.old at (spell pattern.now values.now) out.new result }

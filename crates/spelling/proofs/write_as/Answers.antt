@@ -2,7 +2,7 @@
 use Prim.Native.Nat.{◌<◌}
 use native.Mathlib.Omega.{arith}
 use lib.ListN.{length}
-use Rattle.spelling.proofs.Writing.{write_start, number_left, number_fits, number_written, byte_fits, byte_written, all_written}
+use Rattle.spelling.proofs.Writing.{write_start, number_left, number_fits, number_written, byte_written, all_written}
 use Rattle.spelling.proofs.write_as.Goals as goal
 
 pub loop-j-init : goal.loop-j-init
@@ -25,12 +25,6 @@ overflow_add-k c = let h : c.loop-j.k < length c.args.values.now = search number
 
 pub loop-j-preserved-then-takes_number : goal.loop-j-preserved-then-takes_number
 loop-j-preserved-then-takes_number c = search number_written
-
-pub bounds-out-to : goal.bounds-out-to
-bounds-out-to c = search byte_fits
-
-pub overflow_add-to : goal.overflow_add-to
-overflow_add-to c = omega (arith, bounds-out-to c)
 
 pub loop-j-preserved : goal.loop-j-preserved
 loop-j-preserved c = search byte_written
