@@ -15,8 +15,8 @@
 //! shorter job, in turn with the linked one: it need not know longer sides. The
 //! lines in which their answers differ are shown, and those that are new. A job
 //! that it refuses, because it does not know all of its forms or finds less room for
-//! a fill, is timed without it. It is a shared object, made in that state's checkout,
-//! once its archives are built, by
+//! a fill, is timed without it. It is a shared object, made in that state's checkout
+//! by
 //!
 //! ```text
 //! cc -shared -o earlier.so -Wl,--whole-archive target/staticlib/libunit.a target/staticlib/libphases.a -Wl,--no-whole-archive
