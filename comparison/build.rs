@@ -1,5 +1,4 @@
-//! Links the proved libraries, which `rt staticlib unit` and
-//! `rt staticlib phases` write.
+//! Links the proved libraries, which `bash staticlib` writes.
 
 fn main() {
     let folder = std::path::Path::new(&std::env::var("CARGO_MANIFEST_DIR").unwrap())

@@ -139,9 +139,8 @@ fn job_phase(phase: u64, job: Job) -> u64
 
 // Reads a file, and runs one phase of an accepted one: 1 the exact run, 2 and 3
 // that and the quick run for the greatest or the least window, 4 the verdict, 5 the
-// positions, any other none.
-#[unsafe(no_mangle)]
-pub extern "C" fn density_phase(file: &[u8], phase: u64) -> u64
+// positions, any other none. `phases_c` exports it.
+pub fn density_phase(file: &[u8], phase: u64) -> u64
     ensures { result ≡ phase_of phase (outcome_of unit_limits file.now) }
 {
     let job = jobfile::read(file);

@@ -65,9 +65,9 @@ fn code(r: Reply) -> u64
     }
 }
 
-// The unit for other languages: `answer`, with its reply as one number.
-#[unsafe(no_mangle)]
-pub extern "C" fn density_answer(file: &[u8], out: &mut [u8]) -> u64
+// The unit for other languages: `answer`, with its reply as one number. `unit_c`
+// exports it.
+pub fn density_answer(file: &[u8], out: &mut [u8]) -> u64
     ensures code { result ≡ code_of (reply_for file.now (length out.old)) }
     ensures guarantee { Guarantee file.now out.old (reply_for file.now (length out.old)) out.new }
 {
