@@ -12,7 +12,7 @@ use Rattle.laws.proofs.Tests.{below_or_last}
 use Rattle.geometry.specs.Count.{sum, span, box_sum}
 use Rattle.geometry.proofs.Counting.{sum_zero, span_cong, span_split, span_one, span_empty, box_within, box_cut_rows, box_cut_columns}
 use Rattle.tiles.specs.Sizes.{heaviest}
-use Rattle.tiles.specs.Tiles.{TileBox, number_at, load}
+use Rattle.tiles.specs.Tiles.{TileBox, number_at}
 use Rattle.tiles.specs.Sums.{tiles_before, TileTable, Loads, TilesInLayout, Filled, corner_of, corner_total, corner_in, corner_along, LoadRow, Summed, CornerSums}
 use Rattle.tiles.proofs.Loads.{place_within, filled_start, filled_next, filled_to}
 

@@ -11,7 +11,7 @@ use borrow.Author.Tests.{leb-true, leb-false, le-leb, lt-leb}
 use lib.Dec.{leb}
 use lib.Arith.{digits_lt}
 use lib.ListN.{length, get_or, take, drop, replicate, length-replicate, get_or-append, get_or-eq_default}
-use lib.Seq.{length-take-le, take-take, get_or-take}
+use lib.Seq.{length-take-le, get_or-take}
 use Rattle.laws.proofs.Tests.{le_or_lt}
 use Rattle.geometry.specs.declared.Rect.{Rect}
 use Rattle.geometry.specs.declared.Spot.{Spot}

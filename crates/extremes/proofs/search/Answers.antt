@@ -1,6 +1,5 @@
 -- `extremes::search` meets its contract. The loop's invariant: the rows that are left, searched from what stands, give the whole. The measure is what
 -- is left of the rows. Assumes nothing.
-use Prim.Native.Nat.{◌-◌}
 use mathlib.Core.Path.{refl, sym, ◌∙◌}
 use native.Mathlib.Omega.{arith}
 use Rattle.geometry.specs.Layout.{rects_of}

@@ -1,10 +1,8 @@
 -- `faults::fill_fault` meets its contract: each return cites the tests that led there. Assumes nothing.
-use Prim.Native.Nat.{◌<◌}
 use mathlib.Core.Path.{◌≡◌, sym, ◌∙◌}
 use mathlib.Core.Bool.{true}
 use native.Mathlib.Omega.{arith}
 use Rattle.forms.specs.Forms.{has_tile}
-use Rattle.standing.specs.Held.{amounts_room, TileIn}
 use Rattle.faults.proofs.Faulting.{tile_in, tile_in_table, fill_outside, fill_taken, fill_over, fill_right}
 use Rattle.faults.proofs.fill_fault.Goals.{Else-not-has_tile}
 use Rattle.faults.proofs.fill_fault.Goals as goal

@@ -1,6 +1,5 @@
 -- `geometry::cover_of` meets its contract. The loop's invariant: each of the two numbers and what the rectangles that are left add to it make
 -- the whole. The measure is what is left of the table. Assumes nothing.
-use Prim.Native.Nat.{◌-◌}
 use mathlib.Core.Path.{ap, ◌∙◌}
 use native.Mathlib.Omega.{arith}
 use lib.Dec.{ltb}

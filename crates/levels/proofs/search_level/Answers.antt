@@ -18,13 +18,16 @@ pub rows-requires : goal.rows-requires
 rows-requires c = let a = c.args in
     let p = c.requires.passable in
     let z = p.sized in
-    let first = c.rows-first in record { passable = record {
+    let first = c.rows-first in record {
+      passable = record {
         swept = p.swept;
         sized = record { small = z.small; inside = z.inside; some_step = z.some_step; step_fits = z.step_fits; count = z.count; few_above = z.few_above };
         spare =
             harmless_on a.g.sense (rects_of a.rects.now) a.g a.flags.now a.g.stride a.before first.result.named
             (first_names a.g c.requires.pass_value a.rects.now _ _ first.ensures.value) p.spare;
-      }; lookable = record { few = omega arith; stands = better_self a.g.sense first.result.named.area } }
+      };
+      lookable = record { few = omega arith; stands = better_self a.g.sense first.result.named.area };
+    }
 
 pub returns : goal.returns
 returns c = let a = c.args in

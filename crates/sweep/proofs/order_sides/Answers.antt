@@ -19,10 +19,10 @@ order_by-high-requires c = second_room c.args.rects.now Low _ _ _ c.order_by-low
 
 pub overflow_add-result : goal.overflow_add-result
 overflow_add-result c = omega (
-      arith,
-      first_count c.args.rects.now Low _ _ _ c.order_by-low.ensures,
-      first_count c.args.rects.now High _ _ _ c.order_by-high.ensures,
-    )
+  arith,
+  first_count c.args.rects.now Low _ _ _ c.order_by-low.ensures,
+  first_count c.args.rects.now High _ _ _ c.order_by-high.ensures,
+)
 
 pub returns : goal.returns
 returns c = front_then _ _ _ _ _ _ _ c.order_by-low.ensures c.order_by-high.ensures

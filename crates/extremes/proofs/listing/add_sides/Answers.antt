@@ -1,5 +1,4 @@
 -- `extremes::listing::add_sides` meets its contract. Assumes nothing.
-use Prim.Native.Nat.{◌-◌}
 use Rattle.extremes.proofs.Lists.{sides_start, sides_next, sides_end}
 use Rattle.extremes.proofs.listing.add_sides.Goals as goal
 

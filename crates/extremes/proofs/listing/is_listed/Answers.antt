@@ -1,5 +1,4 @@
 -- The loop's invariant: the position is in the list if it is in what is left of it.
-use Prim.Native.Nat.{◌-◌}
 use mathlib.Core.Path.{refl}
 use native.Mathlib.Omega.{arith}
 use Rattle.extremes.proofs.Lists.{listed_here, listed_next, listed_end}

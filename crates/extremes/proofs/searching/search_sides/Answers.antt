@@ -1,6 +1,5 @@
 -- `extremes::searching::search_sides` meets its contract. The loop's invariant: the sides that are left, tried from where the search stands, give the
 -- whole. The measure is what is left of the list. Assumes nothing.
-use Prim.Native.Nat.{◌-◌}
 use native.Mathlib.Omega.{arith}
 use borrow.Author.Rules.{rules}
 use Rattle.extremes.proofs.Sweeping.{searching_starts, searching_may, searching_next, searching_ends}

@@ -1,6 +1,5 @@
 -- `fill::judging::failing_in_row` meets its contract. The loop's invariant: no start of the row before column i fails. The measure is what is
 -- left of the row. Assumes nothing.
-use Prim.Native.Nat.{◌-◌}
 use mathlib.Core.Path.{◌∙◌, sym}
 use native.Mathlib.Omega.{arith}
 use Rattle.fill.proofs.Starts.{row_first}

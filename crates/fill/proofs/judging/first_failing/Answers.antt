@@ -1,6 +1,5 @@
 -- `fill::judging::first_failing` meets its contract. The loop's invariant: no row before j has a failing start. The measure is what is left of
 -- the rows. Assumes nothing.
-use Prim.Native.Nat.{◌-◌}
 use mathlib.Core.Path.{◌∙◌, sym}
 use native.Mathlib.Omega.{arith}
 use Rattle.fill.proofs.Starts.{rows_first}

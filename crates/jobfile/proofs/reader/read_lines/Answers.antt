@@ -1,10 +1,8 @@
 -- `jobfile::reader::read_lines` meets its contract. The loop's invariant: what was read and what is left from `at` come to what the whole file
 -- comes to. The measure is what is left of the file. Assumes nothing.
-use Prim.Native.Nat.{◌+◌, ◌-◌, ◌≤◌}
+use Prim.Native.Nat.{◌+◌}
 use mathlib.Core.Path.{refl, ◌∙◌}
 use native.Mathlib.Omega.{arith}
-use lib.ListN.{length}
-use Rattle.forms.specs.Limits.{unit_limits}
 use Rattle.jobfile.proofs.Lines.{ReadSoFar, read_so_far_start, read_so_far_next, read_so_far_bad, read_so_far_end, from_place}
 use Rattle.jobfile.proofs.reader.read_lines.Goals as goal
 

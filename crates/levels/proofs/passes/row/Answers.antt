@@ -1,6 +1,6 @@
 -- `levels::passes::row` meets its contract. The loop's invariant: the first i starts were looked at, and the box that is carried along is not right of
 -- the next one's window. The measure is what is left of the starts. Assumes nothing.
-use Prim.Native.Nat.{ℕ, ◌-◌, ◌*◌}
+use Prim.Native.Nat.{ℕ, ◌*◌}
 use mathlib.Core.Path.{sym, ap, ◌∙◌}
 use native.Mathlib.Omega.{arith}
 use Rattle.sweep.specs.declared.Frame.{Frame}

@@ -1,6 +1,5 @@
 -- `levels::passes::rows` meets its contract: the strip's sums are the areas of the pass's windows. The loop's invariant: the first j rows were passed.
 -- The measure is what is left of the rows. Assumes nothing.
-use Prim.Native.Nat.{◌-◌}
 use mathlib.Core.Path.{refl, sym, ◌∙◌}
 use native.Mathlib.Omega.{arith}
 use Rattle.geometry.specs.Layout.{rects_of}
@@ -20,7 +19,8 @@ row-so_far-requires c = let a = c.args in
     let p = c.requires.passable in
     let at = c.loop-j in
     let within = c.loop-j-test.true in
-    let strip = c.row_strip-lengths.ensures.lent in record { strip_passable = record {
+    let strip = c.row_strip-lengths.ensures.lent in record {
+      strip_passable = record {
         strip = strip.strip;
         sized = p.sized;
         within = within;
@@ -28,7 +28,9 @@ row-so_far-requires c = let a = c.args in
             harmless_strip a.rects.now a.g at.j p.sized within _ _ strip a.flags.now _
             (passes_spare a.g.pass _ _ _ _ _ _ _ _ _ at.invariant.2 (rects_of a.rects.now) a.g.n a.g.w a.flags.now a.g.stride
             (p.spare at.j (rw p.sized.count at within)));
-      }; lookable = passes_lookable a.g.pass _ _ _ _ _ _ _ _ _ at.invariant.2 (row_place a.g at.j p.sized at.invariant.0) c.requires.lookable }
+      };
+      lookable = passes_lookable a.g.pass _ _ _ _ _ _ _ _ _ at.invariant.2 (row_place a.g at.j p.sized at.invariant.0) c.requires.lookable;
+    }
 
 pub overflow_add-j : goal.overflow_add-j
 overflow_add-j c = omega (arith, starts_small c.args.g c.requires.passable.sized, c.loop-j-test.true)

@@ -3,12 +3,12 @@ use Rattle.standing.proofs.Entering.{enter_unknown, enter_heading, shape_space, 
 use Rattle.standing.proofs.held.enter.Goals as goal
 
 pub store_amount-requires : goal.store_amount-requires
-store_amount-requires c = 
+store_amount-requires c =
     let both = fill_space c.args.s c.args.shapes.now c.args.regions.now c.args.amounts.now c.requires.held c.args.f _ _ _
     c.in-Fill.is c.requires.f_value in record { tile_in = both.0; j_in_bounds = both.1 }
 
 pub near_row-near-requires : goal.near_row-near-requires
-near_row-near-requires c = 
+near_row-near-requires c =
     let both = fill_row_asked c.args.s c.args.shapes.now c.args.regions.now c.args.amounts.now c.requires.held c.args.f _ _ _
     c.in-Fill.is c.requires.f_value in record { regions_held = both.0; row_bound = both.1 }
 

@@ -19,12 +19,12 @@ bounds-shapes-count c = omega (arith, c.store_rect.auto.table, c.requires.more, 
 
 pub returns : goal.returns
 returns c = record {
-      table =
-          ap₂ (λ (l : List ℕ) (n : ℕ). set l (corners_room + c.args.s.count) n) c.store_rect.ensures c.kind_number.ensures;
-      region =
-          c.keep_out.ensures
-          ∙ ap (λ (g : ℕ). with_region c.args.regions.now c.args.s.count (record { rect = c.args.shape.rect; gap = g })) c.gap_for.ensures;
-    }
+  table =
+      ap₂ (λ (l : List ℕ) (n : ℕ). set l (corners_room + c.args.s.count) n) c.store_rect.ensures c.kind_number.ensures;
+  region =
+      c.keep_out.ensures
+      ∙ ap (λ (g : ℕ). with_region c.args.regions.now c.args.s.count (record { rect = c.args.shape.rect; gap = g })) c.gap_for.ensures;
+}
 
 pub overflow_add-shapes : goal.overflow_add-shapes
 overflow_add-shapes c = record { fits = omega (arith, c.requires.more) }

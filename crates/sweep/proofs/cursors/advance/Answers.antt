@@ -1,6 +1,6 @@
 -- `sweep::cursors::advance` meets its contract. The loop's invariant: the sums formed and those over the sides that are left make the true ones at
 -- the new column. The measure is what is left of the list. Assumes nothing.
-use Prim.Native.Nat.{◌+◌, ◌-◌}
+use Prim.Native.Nat.{◌+◌}
 use native.Mathlib.Omega.{arith}
 use Rattle.sweep.proofs.Moving.{advance_starts, left_inside, left_first, left_second, left_less, advance_next, advance_ends, next_rows_fit, moment_fits, product_fits, moment_below, side_product}
 use Rattle.sweep.proofs.cursors.advance.Goals as goal

@@ -1,6 +1,5 @@
 -- `sweep::strips::sides_of` meets its contract. The loop's invariant: what is written and the sides at the places that are left make the list. The
 -- measure is what is left of the places. Assumes nothing.
-use Prim.Native.Nat.{◌-◌}
 use Rattle.buffers.proofs.Fronts.{front_starts}
 use Rattle.sweep.proofs.Sorted.{place_at}
 use Rattle.sweep.proofs.Covered.{sides_room_lem, sides_next, sides_end}

@@ -1,6 +1,6 @@
 -- `tiles::corners::sum_row` meets its contract. The loop's invariant: the row is summed before column i. The measure is what is left of the tiles.
 -- Assumes nothing.
-use Prim.Native.Nat.{◌+◌, ◌-◌, ◌*◌, ◌<◌}
+use Prim.Native.Nat.{◌+◌, ◌*◌, ◌<◌}
 use native.Mathlib.Omega.{arith}
 use lib.ListN.{length}
 use Rattle.tiles.proofs.Loads.{place_within}

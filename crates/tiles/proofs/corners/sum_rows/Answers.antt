@@ -1,6 +1,5 @@
 -- `tiles::corners::sum_rows` meets its contract. The loop's invariant: the rows below j are summed. The measure is what is left of the rows. Assumes
 -- nothing.
-use Prim.Native.Nat.{◌-◌}
 use native.Mathlib.Omega.{arith}
 use Rattle.tiles.proofs.Summing.{summed_start, summed_next, summed_end, load_row}
 use Rattle.tiles.proofs.corners.sum_rows.Goals as goal

@@ -1,6 +1,5 @@
 -- `tiles::tiling::set_loads` meets its contract: the strip's sums are the areas of a row's tiles. The loop's invariant: the table is filled up to row
 -- j. The measure is what is left of the rows. Assumes nothing.
-use Prim.Native.Nat.{◌-◌}
 use mathlib.Core.Path.{refl, sym, ◌∙◌}
 use native.Mathlib.Nat.{zero-mul, mul-le-mul_right}
 use native.Mathlib.Numerals.{add-one}

@@ -1,6 +1,6 @@
 -- `tiles::tiling::set_row` meets its contract. The loop's invariant: the table is filled up to tile i of the row, and the box that is carried along ends
 -- where that tile begins. The measure is what is left of the tiles. Assumes nothing.
-use Prim.Native.Nat.{◌-◌, ◌*◌}
+use Prim.Native.Nat.{◌*◌}
 use mathlib.Core.Path.{sym}
 use native.Mathlib.Nat.{add-zero, add_assoc, suc-mul}
 use native.Mathlib.Omega.{arith}
