@@ -35,9 +35,12 @@ fn high_end(sense: Sense, level: Level) -> u64
 }
 
 // Whether the upper end of a bracket is near enough to the lower one for accuracy e. A
-// lower end of 0 has nothing near but itself.
+// lower end of 0 has nothing near but itself. 64 bits hold either end times either number,
+// so that a test with the ends exchanged is wrong by what it says alone.
 fn is_close(e: u64, low: u64, high: u64) -> bool
-    requires { (e ≤ most_accuracy) × (1000 * high < 2 ^ 64) × ((1000 + 2 * e) * low < 2 ^ 64) }
+    requires accurate { e ≤ most_accuracy }
+    requires low_small { (1000 * low < 2 ^ 64) × ((1000 + 2 * e) * low < 2 ^ 64) }
+    requires high_small { (1000 * high < 2 ^ 64) × ((1000 + 2 * e) * high < 2 ^ 64) }
     ensures { result ≡ leb (1000 * high) ((1000 + 2 * e) * low) }
 {
     1000 * high <= (1000 + 2 * e) * low

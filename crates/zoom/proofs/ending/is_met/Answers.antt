@@ -8,11 +8,12 @@ use Rattle.zoom.proofs.ending.is_met.Goals as goal
 
 pub is_close-requires : goal.is_close-requires
 is_close-requires c =
-    let small = ends_small c.args.sense c.args.level c.requires.small in (
-      c.requires.accurate,
-      omega (arith, c.high_end-high.ensures, small.high),
-      rw c.low_end-low.ensures (omega (arith, scaled_small c.args.e _ c.requires.accurate small.low)),
-    )
+    let small = ends_small c.args.sense c.args.level c.requires.small in
+    record {
+      accurate = c.requires.accurate;
+      low_small = rw c.low_end-low.ensures (omega (arith, small.low), omega (arith, scaled_small c.args.e _ c.requires.accurate small.low));
+      high_small = rw c.high_end-high.ensures (omega (arith, small.high), omega (arith, scaled_small c.args.e _ c.requires.accurate small.high));
+    }
 
 pub returns : goal.returns
 returns c = c.is_close.ensures
