@@ -13,7 +13,7 @@ use Rattle.geometry.specs.declared.Rect.{Rect}
 use Rattle.geometry.specs.declared.Spot.{Spot}
 use Rattle.geometry.specs.declared.Sense.{Sense}
 use Rattle.geometry.specs.declared.Sense.TheVariants.{Greatest, Least}
-use Rattle.geometry.specs.Layout.{Disjoint, rects_of, Layer}
+use Rattle.geometry.specs.Layout.{Disjoint, Layer}
 use Rattle.geometry.specs.Extreme.{better, NoBetter, Bounded, spot_at}
 use Rattle.geometry.proofs.Extremes.{NoLater, not_better, better_neither, IsBest, Start, start_at, start_in, rows_best_of_all, best_of_fewer, best_same, best_unique, Dispensable}
 use Rattle.geometry.specs.Positions.{window_area, positions, Position}
@@ -78,16 +78,13 @@ module _ (s : Sense) (rs : List Rect) (n w : ℕ) (e : Spot) (h : IsBest s (wind
       later y l (inr k) = omega (arith, k.0)
 
 -- so it is among the candidates, and every other position is dispensable
-module _ (s : Sense) (t : List ℕ) (n w : ℕ) where
-  abbrev rs : List Rect
-  rs = rects_of t
-
+module _ (s : Sense) (rs : List Rect) (n w : ℕ) where
   abbrev Tried : (x y : ℕ) → Type 0
-  Tried = Listed (tried_row s w (n - w) t) (candidates s (n - w) w rs)
+  Tried = Listed (tried_row s w (n - w) rs) (candidates s (n - w) w rs)
 
   extreme_listed : Disjoint rs → (e : Spot) → IsBest s (window_area rs w) (Position n w) e → Tried e.x e.y
   extreme_listed d e h = (
-    tried_complete t n w e.y s e.x (x_in s rs n w e h) (candidate_across s rs w (n - w) e.x e.y d (row_first s rs n w e h)),
+    tried_complete rs n w e.y s e.x (x_in s rs n w e h) (candidate_across s rs w (n - w) e.x e.y d (row_first s rs n w e h)),
     candidates_complete s (n - w) w _ e.y rs (y_in s rs n w e h) (candidate_up s rs w (n - w) e.x e.y d (column_first s rs n w e h)),
   )
 
@@ -103,7 +100,7 @@ module _ (s : Sense) (t : List ℕ) (n w : ℕ) where
           inr (same, h.first x y p (sym same ∙ sym h.area_is))
 
   -- for disjoint rectangles the search among the candidates is the extreme over all positions
-  pub searched_is_extreme : Disjoint rs → searched s t n w ≡ extreme s rs n w
+  pub searched_is_extreme : Disjoint rs → searched s rs n w ≡ extreme s rs n w
   unfolding searched
   searched_is_extreme d =
       best_unique s (window_area rs w) (Position n w) _ _
@@ -112,12 +109,12 @@ module _ (s : Sense) (t : List ℕ) (n w : ℕ) where
       (extreme_best s rs n w)
     where
       inside : (x y : ℕ) → Tried x y → Position n w x y
-      inside x y m = position n w x y (tried_within t n w y s x m.0) (candidates_within s (n - w) w rs y m.1)
+      inside x y m = position n w x y (tried_within rs n w y s x m.0) (candidates_within s (n - w) w rs y m.1)
 
 -- ---- what the code returns
 
-pub extreme_found : (s : Sense) (t : List ℕ) (n w i : ℕ) (ys : List ℕ) (r : Spot) → Layer t → ys ≡ candidates s (n - w) w (rects_of t) → length ys ≤ i →
-    r ≡ leading_in_rows s (window_area (rects_of t) w) (tried_row s w (n - w) t) (take i ys) (spot_at (window_area (rects_of t) w) 0 0) →
-    r ≡ extreme s (rects_of t) n w
+pub extreme_found : (s : Sense) (t : List Rect) (n w i : ℕ) (ys : List ℕ) (r : Spot) → Layer t → ys ≡ candidates s (n - w) w t → length ys ≤ i →
+    r ≡ leading_in_rows s (window_area t w) (tried_row s w (n - w) t) (take i ys) (spot_at (window_area t w) 0 0) →
+    r ≡ extreme s t n w
 unfolding searched
 extreme_found s t n w i ys r d c h e = rw (take_all i ys h, c) at e ∙ searched_is_extreme s t n w d.apart

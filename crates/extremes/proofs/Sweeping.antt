@@ -7,10 +7,10 @@ use native.Mathlib.Numerals.{add-two}
 use native.Mathlib.Omega.{arith}
 use lib.ListN.{length, get_or, drop, length-drop}
 use borrow.Author.Tests.{le-leb, lt-leb}
+use Rattle.geometry.specs.declared.Rect.{Rect}
 use Rattle.geometry.specs.declared.Spot.{Spot}
 use Rattle.geometry.specs.declared.Sense.{Sense}
 use Rattle.geometry.specs.declared.Sense.TheVariants.{Greatest, Least}
-use Rattle.geometry.specs.Layout.{rects_of}
 use Rattle.geometry.specs.Extreme.{spot_at}
 use Rattle.sweep.specs.declared.Frame.{Frame}
 use Rattle.sweep.specs.Strips.{Rising, Sides, Strip, StripOf}
@@ -177,14 +177,14 @@ module _ (lows highs : List ℕ) (row : Row) (best : Spot) where
 fold_cong : (step other : Spot → ℕ → Spot) → ((b : Spot) (p : ℕ) → step b p ≡ other b p) → (l : List ℕ) (b : Spot) → fold step b l ≡ fold other b l
 fold_cong step other h l b = fold_along step other (λ b c. b ≡ c) (λ b c p e. h b p ∙ ap (λ (b : Spot). other b p) e) b b l refl
 
-pub row_by_strip : (t lows highs : List ℕ) (row : Row) (b r : Spot) → StripOf t row.y (row.y + row.search.w) lows highs →
+pub row_by_strip : (t : List Rect) (lows highs : List ℕ) (row : Row) (b r : Spot) → StripOf t row.y (row.y + row.search.w) lows highs →
     r ≡ leading_in_row row.search.sense (strip_area lows highs row.search.w) (tried_in row.search.sense row.search.w row.search.last lows highs) row.y b →
-    r ≡ leading_in_row row.search.sense (window_area (rects_of t) row.search.w) (tried_row row.search.sense row.search.w row.search.last t row.y) row.y b
+    r ≡ leading_in_row row.search.sense (window_area t row.search.w) (tried_row row.search.sense row.search.w row.search.last t row.y) row.y b
 row_by_strip t lows highs row b r s e =
     e
     ∙ fold_cong _ _
     (λ b x. ap (λ (a : ℕ). leading row.search.sense b (record { area = a; x = x; y = row.y })) (s.areas x (x + row.search.w) (omega arith)))
     (tried_in row.search.sense row.search.w row.search.last lows highs) b
     ∙ ap₂
-    (λ (l h : List ℕ). leading_in_row row.search.sense (window_area (rects_of t) row.search.w) (tried_in row.search.sense row.search.w row.search.last l h) row.y b)
+    (λ (l h : List ℕ). leading_in_row row.search.sense (window_area t row.search.w) (tried_in row.search.sense row.search.w row.search.last l h) row.y b)
     s.low s.high

@@ -1,11 +1,11 @@
 -- What the code of the exact run does in place of trying every position. A buyer need not read it: proofs/Searches.antt shows that
 -- `searched` is `extreme`.
 use Rattle.std.specs.Prelude.{ℕ, ◌+◌, ◌-◌, ◌≤◌, Bool, true, false, ◌&&◌, ◌||◌, List, [], ◌∷◌, ◌++◌, leb, ltb, eqb, fold}
+use Rattle.geometry.specs.declared.Rect.{Rect}
 use Rattle.geometry.specs.declared.Spot.{Spot}
 use Rattle.geometry.specs.declared.Sense.{Sense}
 use Rattle.geometry.specs.Extreme.{better, spot_at}
 use Rattle.geometry.specs.Sizes.{widest}
-use Rattle.geometry.specs.Layout.{rects_of}
 use Rattle.sweep.specs.declared.Side.TheVariants.{Low, High}
 use Rattle.sweep.specs.Strips.{strip_sides, strip_sum, Swept}
 use Rattle.sweep.specs.Cursors.{frame_at}
@@ -52,13 +52,13 @@ positions_of shift last (v ∷ h ∷ s) = elim (is_reached shift last v) [ true 
 abbrev pub tried_in : Sense → (w last : ℕ) → (lows highs : List ℕ) → List ℕ
 tried_in s w last lows highs = (0 ∷ last ∷ []) ++ (positions_of 0 last (near_of s lows highs) ++ positions_of w last (far_of s lows highs))
 
-abbrev pub tried_row : Sense → (w last : ℕ) → (rects : List ℕ) → (y : ℕ) → List ℕ
+abbrev pub tried_row : Sense → (w last : ℕ) → (rects : List Rect) → (y : ℕ) → List ℕ
 tried_row s w last rects y = tried_in s w last (strip_sides rects Low y (y + w)) (strip_sides rects High y (y + w))
 
 -- the search for an extreme: the window at (0, 0), then those at the candidates
-unfoldable pub searched : Sense → (rects : List ℕ) → (n w : ℕ) → Spot
+unfoldable pub searched : Sense → (rects : List Rect) → (n w : ℕ) → Spot
 searched s rects n w =
-    leading_in_rows s (window_area (rects_of rects) w) (tried_row s w (n - w) rects) (candidates s (n - w) w (rects_of rects)) (spot_at (window_area (rects_of rects) w) 0 0)
+    leading_in_rows s (window_area rects w) (tried_row s w (n - w) rects) (candidates s (n - w) w rects) (spot_at (window_area rects w) 0 0)
 
 -- ---- one window
 
@@ -79,7 +79,7 @@ tried_by lows highs row v shift before =
 -- ---- what the code asks, so that 64 bits and its tables hold what it forms
 
 -- a layout of side n, with the order of its sides, and a window of side w that fits it
-pub record Searchable (rects order : List ℕ) (n w : ℕ) : Type 0 where
+pub record Searchable (rects : List Rect) (order : List ℕ) (n w : ℕ) : Type 0 where
   pub swept : Swept rects order
   pub fits : w ≤ n
   pub small : n ≤ widest

@@ -12,13 +12,13 @@ mod search;
 mod searching;
 
 ghost use Rattle.std.specs.Prelude.{◌≡◌};
-ghost use Rattle.geometry.specs.Layout.{rects_of, Layer};
+ghost use Rattle.geometry.specs.Layout.{Layer};
 ghost use Rattle.geometry.specs.Extreme.{spot_at};
 ghost use Rattle.geometry.specs.Positions.{window_area};
 ghost use Rattle.extremes.specs.Exact.{extreme, exact_run};
 ghost use Rattle.extremes.specs.Search.{Searchable};
 
-use geometry::{Sense, Spot};
+use geometry::{Rect, Sense, Spot};
 use search::{Row, Search};
 use sweep::STRIP_ROOM;
 
@@ -30,9 +30,9 @@ pub struct Extremes {
 }
 
 // The window at the origin, with which every search begins.
-pub fn first_window(rects: &[u64], w: u64) -> Spot
+pub fn first_window(rects: &[Rect], w: u64) -> Spot
     requires { Layer rects.now }
-    ensures { result ≡ spot_at (window_area (rects_of rects.now) w) 0 0 }
+    ensures { result ≡ spot_at (window_area rects.now w) 0 0 }
 {
     let cover = geometry::cover_of(rects, geometry::window_box(w, 0, 0));
     Spot {
@@ -43,9 +43,9 @@ pub fn first_window(rects: &[u64], w: u64) -> Spot
 }
 
 // The extreme over all positions, with its window of least y, then least x.
-fn find_extreme(rects: &[u64], order: &[usize], n: u64, w: u64, sense: Sense) -> Spot
+fn find_extreme(rects: &[Rect], order: &[usize], n: u64, w: u64, sense: Sense) -> Spot
     requires { Searchable rects.now order.now n w }
-    ensures { result ≡ extreme sense (rects_of rects.now) n w }
+    ensures { result ≡ extreme sense rects.now n w }
 {
     let last = n - w;
     let search = Search { sense, w, last };
@@ -60,9 +60,9 @@ fn find_extreme(rects: &[u64], order: &[usize], n: u64, w: u64, sense: Sense) ->
 
 // The exact run. The order of the sides is lent, since a job's other runs take it
 // too.
-pub fn exact_run(rects: &[u64], order: &[usize], n: u64, w: u64) -> Extremes
+pub fn exact_run(rects: &[Rect], order: &[usize], n: u64, w: u64) -> Extremes
     requires { Searchable rects.now order.now n w }
-    ensures { result ≡ exact_run (rects_of rects.now) n w }
+    ensures { result ≡ exact_run rects.now n w }
 {
     let greatest = find_extreme(rects, order, n, w, Sense::Greatest);
     let least = find_extreme(rects, order, n, w, Sense::Least);

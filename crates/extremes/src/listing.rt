@@ -1,8 +1,7 @@
 // The rows that are tried.
 ghost use Rattle.std.specs.Prelude.{◌+◌, ◌<◌, ◌≤◌, ◌≡◌, length};
 ghost use Rattle.arrayvec.specs.ArrayVec.{array_vec_len};
-ghost use Rattle.geometry.specs.Layout.{rects_of};
-ghost use Rattle.geometry.specs.Sizes.{rects_room};
+ghost use Rattle.geometry.specs.Sizes.{most_rects};
 ghost use Rattle.extremes.specs.Listing.{near_of, far_of, with_position, with_end, with_sides, candidates};
 
 use crate::search::Search;
@@ -56,15 +55,15 @@ fn add_sides(rows: &mut ArrayVec<u64, ROWS_ROOM>, r: Rect, search: Search)
 }
 
 // Lists the rows that are tried.
-pub(crate) fn list_rows(rects: &[u64], search: Search) -> ArrayVec<u64, ROWS_ROOM>
-    requires { length rects.now ≤ rects_room }
-    ensures { result.items ≡ candidates search.sense search.last search.w (rects_of rects.now) }
+pub(crate) fn list_rows(rects: &[Rect], search: Search) -> ArrayVec<u64, ROWS_ROOM>
+    requires { length rects.now ≤ most_rects }
+    ensures { result.items ≡ candidates search.sense search.last search.w rects.now }
 {
     let mut rows = ArrayVec::new();
     rows.push(0);
     add_position(&mut rows, search.last, search.last);
-    for i in 0..rects.len() / 4 {
-        add_sides(&mut rows, geometry::rect_at(rects, 4 * i), search);
+    for &r in rects {
+        add_sides(&mut rows, r, search);
     }
     rows
 }

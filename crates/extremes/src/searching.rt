@@ -1,7 +1,6 @@
 // The search along a row: its windows are tried in any order, a better one leads,
 // and of two as good the earlier one.
 ghost use Rattle.std.specs.Prelude.{◌+◌, ◌-◌, ◌≤◌, ◌≡◌, [], ◌∷◌, length};
-ghost use Rattle.geometry.specs.Layout.{rects_of};
 ghost use Rattle.sweep.specs.Strips.{strip_room, Sides, Strip, Swept};
 ghost use Rattle.sweep.specs.Cursors.{Behind, ColumnsInOrder};
 ghost use Rattle.geometry.specs.Positions.{window_area};
@@ -9,7 +8,7 @@ ghost use Rattle.extremes.specs.Search.{leads, leading, leading_in_row, strip_ar
 
 use crate::listing::near_and_far;
 use crate::search::Row;
-use geometry::{Sense, Spot};
+use geometry::{Rect, Sense, Spot};
 use sweep::Frame;
 
 // Whether a window goes before the one that stands: it is better, or as good with a
@@ -123,7 +122,7 @@ fn search_strip(lows: &[u64], highs: &[u64], row: Row, best: Spot) -> Spot
 
 // The same by the rectangles. The strip is what depends on y alone.
 pub(crate) fn search_row(
-    rects: &[u64],
+    rects: &[Rect],
     order: &[usize],
     row: Row,
     best: Spot,
@@ -131,7 +130,7 @@ pub(crate) fn search_row(
 ) -> Spot
     requires swept { Swept rects.now order.now }
     requires strip_room_in_bounds { strip_room ≤ length sides.old }
-    ensures { result ≡ leading_in_row row.search.sense (window_area (rects_of rects.now) row.search.w) (tried_row row.search.sense row.search.w row.search.last rects.now row.y) row.y best }
+    ensures { result ≡ leading_in_row row.search.sense (window_area rects.now row.search.w) (tried_row row.search.sense row.search.w row.search.last rects.now row.y) row.y best }
 {
     let lengths = sweep::strip(rects, order, row.y, row.y + row.search.w, sides);
     let low = lengths.low;
