@@ -44,13 +44,10 @@ pub(crate) fn sides_of(
     ensures { Front out.old (sides_at rects.now side y1 y2 places.now) out.new result }
 {
     let mut at: usize = 0;
-    let mut i: usize = 0;
-    while i < places.len() {
-        let place = places[i];
+    for &place in places {
         let column = column_at(rects, side, place);
         let rows = rows_at(rects, place, y1, y2);
         at = put_side(out, at, column, rows);
-        i += 1;
     }
     at
 }
