@@ -8,5 +8,5 @@ use Rattle.extremes.proofs.listing.list_rows.Given as goal
 abbrev pub invariant-loop-r : goal.invariant-loop-r
 invariant-loop-r l = record {
   listed : l.rows.items ≡ candidates l.search.sense l.search.last l.search.w (take l.r-index l.rects);
-  room : length l.rows.items ≤ 2 * l.r-index + 2
+  room : length l.rows.items ≤ 2 * l.r-index + 2;
 }
