@@ -6,7 +6,6 @@ use mathlib.Core.List.{List, [], ◌∷◌, ◌++◌}
 use native.Mathlib.Numerals.{add-two}
 use native.Mathlib.Omega.{arith}
 use lib.ListN.{length, get_or, drop, length-drop}
-use borrow.Author.Tests.{le-leb, lt-leb}
 use Rattle.geometry.specs.declared.Rect.{Rect}
 use Rattle.geometry.specs.declared.Spot.{Spot}
 use Rattle.geometry.specs.declared.Sense.{Sense}
@@ -14,7 +13,7 @@ use Rattle.geometry.specs.declared.Sense.TheVariants.{Greatest, Least}
 use Rattle.geometry.specs.Extreme.{spot_at}
 use Rattle.sweep.specs.declared.Frame.{Frame}
 use Rattle.sweep.specs.Strips.{Rising, Sides, Strip, StripOf}
-use Rattle.sweep.specs.Cursors.{frame_at, start_frame, Behind, ColumnsInOrder}
+use Rattle.sweep.specs.Cursors.{start_frame, Behind}
 use Rattle.sweep.proofs.Moving.{two_at, true_area, behind_start, behind_later, behind_moved}
 use Rattle.extremes.specs.declared.search.Row.{Row}
 use Rattle.extremes.specs.declared.searching.Tried.{Tried}
@@ -27,27 +26,6 @@ use Rattle.std.proofs.lemmas.List.Folds.{fold_along}
 use Rattle.extremes.proofs.Reached.{positions_cons, short_positions}
 
 -- ---- one window
-
-pub window_tried : (lows highs : List ℕ) (row : Row) (x : ℕ) (b r : Spot) (f : Frame) → f ≡ frame_at lows highs x (x + row.search.w) →
-    r ≡ leading row.search.sense b (record { area = f.area; x = x; y = row.y }) → ◌≡◌ {A = Tried} (record { frame = f; best = r }) (tried_at lows highs row x b)
-window_tried lows highs row x b r f e h =
-    ap₂ {C = Tried} (λ (f : Frame) (r : Spot). record { frame = f; best = r }) e
-    (h ∙ ap (λ (f : Frame). leading row.search.sense b (record { area = f.area; x = x; y = row.y })) e)
-
--- a window of a row
-pub window_upright : (row : Row) (x : ℕ) → x ≤ row.search.last → ColumnsInOrder x (x + row.search.w)
-window_upright row x h = record { order = omega arith; small = omega (arith, row.search.small) }
-
-module _ (lows highs : List ℕ) (row : Row) (v shift : ℕ) (before : Tried) where
-  pub side_short : v < shift → before ≡ tried_by lows highs row v shift before
-  side_short h = rw (lt-leb shift v h, tried_by, is_reached)
-
-  module _ (h : shift ≤ v) where
-    pub side_late : row.search.last < v - shift → before ≡ tried_by lows highs row v shift before
-    side_late k = rw (le-leb shift v h, lt-leb (v - shift) row.search.last k, tried_by, is_reached)
-
-    pub side_tried : (r : Tried) → v - shift ≤ row.search.last → r ≡ tried_at lows highs row (v - shift) before.best → r ≡ tried_by lows highs row v shift before
-    side_tried r k e = rw (le-leb shift v h, le-leb (v - shift) row.search.last k, tried_by, is_reached) e
 
 -- a window right of one that was tried
 pub tried_behind : (lows highs : List ℕ) (row : Row) (x p : ℕ) (b : Spot) (t : Tried) → t ≡ tried_at lows highs row x b → x ≤ p →
@@ -149,10 +127,6 @@ far_map f Greatest r low high e = ap f e
 far_map f Least r low high e = ap f e
 
 module _ (lows highs : List ℕ) (row : Row) (best : Spot) where
-  pub ends_tried : (first last : Tried) → first ≡ tried_at lows highs row 0 best → last ≡ tried_at lows highs row row.search.last first.best →
-      last.best ≡ along lows highs row (0 ∷ row.search.last ∷ []) best
-  ends_tried first last e f = ap (λ (t : Tried). t.best) (f ∙ ap (λ (t : Tried). tried_at lows highs row row.search.last t.best) e)
-
   -- the sides that the sense asks for
   pub sides_tried : (near far : List ℕ) (ends first r : Spot) → near ≡ near_of row.search.sense lows highs → far ≡ far_of row.search.sense lows highs →
       ends ≡ along lows highs row (0 ∷ row.search.last ∷ []) best → first ≡ along lows highs row (positions_of 0 row.search.last near) ends →
