@@ -5,7 +5,6 @@
 
 ghost use Rattle.std.specs.Prelude.{◌+◌, ◌-◌, ◌^◌, ◌<◌, ◌≡◌};
 ghost use Rattle.geometry.specs.Sizes.{SmallRect};
-ghost use Rattle.geometry.specs.Count.{one_if};
 ghost use Rattle.geometry.specs.Layout.{shares_square, cover_of, window_box, Layer};
 ghost use Rattle.geometry.specs.Overlaps.{common, overlap};
 ghost use Rattle.geometry.specs.Extreme.{better, replaced};
@@ -81,13 +80,6 @@ pub fn overlap_of(r: Rect, b: Rect) -> u64
     across * down
 }
 
-// What a test adds to a count.
-fn one_if(test: bool) -> u64
-    ensures { result ≡ one_if test }
-{
-    u64::from(test)
-}
-
 // The window of side w at (x, y).
 pub fn window_box(w: u64, x: u64, y: u64) -> Rect
     requires { (x + w < 2 ^ 64) × (y + w < 2 ^ 64) }
@@ -111,7 +103,7 @@ pub fn cover_of(rects: &[Rect], b: Rect) -> Cover
     for &r in rects {
         let shared = overlap_of(r, b);
         area += shared;
-        shapes += one_if(0 < shared);
+        shapes += u64::from(0 < shared);
     }
     Cover { area, shapes }
 }
