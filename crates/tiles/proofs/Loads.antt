@@ -11,14 +11,14 @@ use lib.ListN.{length, get_or, set, length-set}
 use lib.Seq.{get_or-set_same, get_or-set_other}
 use Rattle.laws.proofs.Tests.{le_or_lt, below_or_last}
 use Rattle.geometry.specs.declared.Rect.{Rect}
-use Rattle.geometry.specs.Sizes.{widest, largest}
+use Rattle.geometry.specs.Sizes.{widest}
 use Rattle.geometry.specs.Count.{box_sum}
 use Rattle.geometry.specs.Layout.{covered_area, rects_of}
 use Rattle.geometry.proofs.Counting.{Inside, box_cong, box_le, box_const}
 use Rattle.geometry.proofs.Overlaps.{area_small}
 use Rattle.sweep.specs.declared.Frame.{Frame}
 use Rattle.sweep.specs.Strips.{strip_sum, StripOf}
-use Rattle.sweep.specs.Cursors.{frame_at, ColumnsInOrder}
+use Rattle.sweep.specs.Cursors.{frame_at}
 use Rattle.spacing.specs.declared.Keepout.{Keepout}
 use Rattle.tiles.specs.declared.Plan.{Plan}
 use Rattle.spacing.specs.Eligible.{tile, fillable_area}
@@ -65,9 +65,6 @@ filled_then f l m k from mid to s r p q =
     go i a u (inl h) = r.set i h u
     go i a u (inr h) = r.below i h ∙ s.set i a h
 
-pub rows_done : (f : ℕ → ℕ) (l m : List ℕ) (across j : ℕ) → Filled f l m 0 (j * across) → j ≤ across → across ≤ j → Filled f l m 0 (across * across)
-rows_done f l m across j s h k = filled_to f l m 0 (j * across) (across * across) s (ap (λ (i : ℕ). i * across) (omega arith))
-
 pub filled_as : (f g : ℕ → ℕ) (l m : List ℕ) (from to : ℕ) → Filled f l m from to → ((k : ℕ) → from ≤ k → k < to → f k ≡ g k) → Filled g l m from to
 filled_as f g l m from to s e = record { size = s.size; set = λ k a u. s.set k a u ∙ e k a u; below = s.below; rest = s.rest }
 
@@ -83,9 +80,6 @@ pub tile_fillable : (ks : List Keepout) (side i j : ℕ) → fillable_area ks (t
 tile_fillable ks side i j = omega (arith, fillable_small ks (tile side i j), ap₂ ◌*◌ (tile_width side i) (tile_width side j))
 
 -- ---- a row of tiles by its strip
-
-pub row_fits : (across side j : ℕ) → j < across → across * side ≤ widest → j * side + side ≤ widest
-row_fits across side j h k = omega (arith, mul-le-mul_right {m = suc j} {n = across} side h, suc-mul j side)
 
 module _ (rects amounts : List ℕ) (plan : Plan) (j : ℕ) (z : Tiled rects amounts plan) (row : j < plan.across) (lows highs : List ℕ)
     (lent : StripOf rects (j * plan.side) (j * plan.side + plan.side) lows highs) where
@@ -131,24 +125,12 @@ pub tile_end : (side i : ℕ) → i * side ≤ (i + 1) * side
 tile_end side i = mul-le-mul_right side (omega arith)
 
 module _ (lows highs amounts : List ℕ) (plan : Plan) (j i : ℕ) (z : RowTiled lows highs amounts plan j) (h : i < plan.across) where
-  pub tile_right : (i + 1) * plan.side ≤ widest
-  tile_right = omega (arith, z.layout, mul-le-mul_right {m = i + 1} {n = plan.across} plan.side (omega arith))
-
-  pub tile_upright : ColumnsInOrder (i * plan.side) ((i + 1) * plan.side)
-  tile_upright = record { order = tile_end plan.side i; small = tile_right }
-
   pub place_inside : j * plan.across + i < plan.across * plan.across
   place_inside = place_within plan.across i j (plan.across * plan.across) h z.row (omega arith)
-
-  pub place_small : j * plan.across + i < tiles_room
-  place_small = omega (arith, place_inside, mul-le-mul z.few z.few)
 
   module _ (f : Frame) (e : f ≡ frame_at lows highs (i * plan.side) ((i + 1) * plan.side)) where
     area_is : f.area ≡ strip_sum lows highs (i * plan.side) (suc i * plan.side)
     area_is = ap (λ (f : Frame). f.area) e ∙ ap (λ (k : ℕ). strip_sum lows highs (i * plan.side) (k * plan.side)) (add-one i)
-
-    pub load_fits : f.area + get_or amounts (j * plan.across + i) 0 ≤ 2 * largest
-    load_fits = omega (arith, area_is, z.light i h)
 
     pub load_formed : f.area + get_or amounts (j * plan.across + i) 0 ≡ load_along lows highs amounts plan j (j * plan.across + i)
     load_formed =

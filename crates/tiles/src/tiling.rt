@@ -18,12 +18,10 @@ fn set_row(lows: &[u64], highs: &[u64], amounts: &[u64], plan: Plan, j: u64, out
     let side = plan.side;
     let first = j * plan.across;
     let mut frame = sweep::start_frame();
-    let mut i: u64 = 0;
-    while i < plan.across {
+    for i in 0..plan.across {
         frame = sweep::move_to(lows, highs, frame, i * side, (i + 1) * side);
         let t = (first + i) as usize;
         out[t] = frame.area + amounts[t];
-        i += 1;
     }
 }
 
@@ -35,8 +33,7 @@ pub fn set_loads(rects: &[u64], order: &[usize], amounts: &[u64], plan: Plan, ou
     ensures { Filled (load_of (rects_of rects.now) amounts.now plan) out.old out.new 0 (plan.across * plan.across) }
 {
     let mut sides = [0u64; STRIP_ROOM];
-    let mut j: u64 = 0;
-    while j < plan.across {
+    for j in 0..plan.across {
         let y1 = j * plan.side;
         let y2 = y1 + plan.side;
         let lengths = sweep::strip(rects, order, y1, y2, &mut sides);
@@ -44,6 +41,5 @@ pub fn set_loads(rects: &[u64], order: &[usize], amounts: &[u64], plan: Plan, ou
         let both = lengths.both;
         let strip = &sides[..];
         set_row(&strip[..low], &strip[low..both], amounts, plan, j, out);
-        j += 1;
     }
 }
