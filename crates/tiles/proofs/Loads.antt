@@ -176,5 +176,5 @@ module _ (rects : List Rect) (amounts : List ℕ) (plan : Plan) (before table : 
 
 -- ---- 64 bits
 
-pub tiles_few : (across : ℕ) → across ≤ most_across → across * across ≤ tiles_room
-tiles_few across h = mul-le-mul h h
+pub tiles_few : (n : ℕ) → n ≤ most_across → n * n ≤ tiles_room
+tiles_few n h = mul-le-mul h h
