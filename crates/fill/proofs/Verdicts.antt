@@ -8,7 +8,7 @@ use native.Mathlib.Omega.{arith}
 use lib.ListN.{length}
 use Rattle.laws.proofs.Tests.{le_or_lt}
 use Rattle.geometry.specs.Count.{span, box_sum}
-use Rattle.geometry.specs.Layout.{rects_of}
+use Rattle.geometry.specs.declared.Rect.{Rect}
 use Rattle.geometry.proofs.Counting.{same_box, span_empty}
 use Rattle.tiles.specs.declared.Plan.{Plan}
 use Rattle.tiles.specs.Tiles.{TileBox, number_at, load}
@@ -77,8 +77,8 @@ module _ (loads : ℕ → ℕ → ℕ) (plan : Plan) (total : TileBox → ℕ) (
 
 -- ---- the verdict by corner sums
 
-module _ {rects amounts : List ℕ} {plan : Plan} {before table sums : List ℕ}
-    (f : Filled (load_of (rects_of rects) amounts plan) before table 0 (plan.across * plan.across)) (t : Tiled rects amounts plan)
+module _ {rects : List Rect} {amounts : List ℕ} {plan : Plan} {before table sums : List ℕ}
+    (f : Filled (load_of rects amounts plan) before table 0 (plan.across * plan.across)) (t : Tiled rects amounts plan)
     (full : plan.across * plan.across ≤ length before) (s : Summed table sums plan.across plan.across) where
   summed : CornersOf (number_at table plan.across) sums plan.across
   summed =
@@ -89,7 +89,7 @@ module _ {rects amounts : List ℕ} {plan : Plan} {before table sums : List ℕ}
   plan_sums = corner_sums summed
 
   pub sums_verdict : plan.cut ≤ plan.across → let total = corner_total sums plan.across in
-      judged (search_by total (rule_of plan) plan.across 0) (search_by total (rule_of plan) plan.across 1) ≡ verdict_of (rects_of rects) amounts plan
+      judged (search_by total (rule_of plan) plan.across 0) (search_by total (rule_of plan) plan.across 1) ≡ verdict_of rects amounts plan
   sums_verdict h =
-      search_verdict (load (rects_of rects) amounts plan) plan (corner_total sums plan.across)
+      search_verdict (load rects amounts plan) plan (corner_total sums plan.across)
       (λ b k. corner_total_lem summed k ∙ box_load rects amounts plan before table f b k) h

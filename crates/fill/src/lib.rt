@@ -2,13 +2,13 @@
 #![tactic(auto)]
 
 ghost use Rattle.std.specs.Prelude.{◌≡◌};
-ghost use Rattle.geometry.specs.Layout.{rects_of};
 ghost use Rattle.sweep.specs.Strips.{Swept};
 ghost use Rattle.fill.specs.Judge.{verdict_of};
 ghost use Rattle.fill.specs.Sizes.{Planned};
 
 mod judging;
 
+use geometry::Rect;
 use tiles::{Corners, Plan, TILES_ROOM, set_loads, sum_rows};
 
 // The bound that a window fails: over says that U fails, under that L does.
@@ -36,10 +36,10 @@ pub enum Verdict {
 
 // The verdict on a table of amounts, one to a tile, row by row. The order of the
 // sides is lent, as for the exact run.
-pub fn judge(rects: &[u64], order: &[usize], amounts: &[u64], plan: Plan) -> Verdict
+pub fn judge(rects: &[Rect], order: &[usize], amounts: &[u64], plan: Plan) -> Verdict
     requires planned { Planned rects.now amounts.now plan }
     requires swept { Swept rects.now order.now }
-    ensures { result ≡ verdict_of (rects_of rects.now) amounts.now plan }
+    ensures { result ≡ verdict_of rects.now amounts.now plan }
 {
     let mut table = [0u64; TILES_ROOM];
     set_loads(rects, order, amounts, plan, &mut table);
