@@ -18,7 +18,7 @@ pub const MOST_RECTS: usize = 1024;
 
 // The unit squares from x1 to before x2 and from y1 to before y2: a
 // rectangle of metal, a window, a tile.
-#[derive(Clone, Copy)]
+#[derive(Clone, Copy, Default)]
 pub struct Rect {
     pub x1: u64,
     pub y1: u64,
