@@ -1,12 +1,11 @@
 -- Regions that do not come near a box: they may be left out of what holds its squares, so that a part of the table is enough for it.
-use Prim.Native.Nat.{ℕ, zero, suc, ◌+◌, ◌-◌, ◌≤◌, ◌<◌}
+use Prim.Native.Nat.{ℕ, suc, ◌+◌, ◌-◌, ◌≤◌, ◌<◌}
 use mathlib.Core.Path.{◌≡◌, refl, sym, ap, ap₂, ◌∙◌}
-use mathlib.Core.Bool.{Bool, true, false, ◌||◌, or-false}
-use mathlib.Core.List.{List, [], ◌∷◌, ◌++◌}
+use mathlib.Core.Bool.{Bool, false, ◌||◌, or-false}
+use mathlib.Core.List.{List, [], ◌∷◌}
 use mathlib.Core.Logic.{◌⊎◌, inl, inr}
 use native.Mathlib.Omega.{arith}
 use lib.ListN.{length, take, drop, get_or}
-use Rattle.std.proofs.Common.{All}
 use Rattle.std.proofs.lemmas.List.{take-append-drop, take_all, drop-drop, get_or-take, length-take-le}
 use Rattle.laws.proofs.Tests.{le_or_lt, true_false}
 use Rattle.geometry.specs.declared.Rect.{Rect}

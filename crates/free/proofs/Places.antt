@@ -1,7 +1,7 @@
 -- The regions of a table by their places, and the places that are kept for a box.
 use Prim.Native.Nat.{ℕ, zero, suc, ◌+◌, ◌≤◌, ◌<◌}
-use mathlib.Core.Path.{◌≡◌, refl, sym, ap, ap₂, ◌∙◌}
-use mathlib.Core.Bool.{Bool, true, false, not, ◌||◌, or_assoc, or-false, or-true}
+use mathlib.Core.Path.{◌≡◌, refl, sym, ap, ◌∙◌}
+use mathlib.Core.Bool.{Bool, true, false, not, ◌||◌, or-false, or-true}
 use mathlib.Core.List.{List, [], ◌∷◌, ◌++◌}
 use mathlib.Core.Logic.{◌⊎◌, inl, inr}
 use native.Mathlib.Numerals.{add-one}
@@ -10,13 +10,15 @@ use lib.ListN.{length, take, get_or, length-append}
 use lib.Seq.{take-suc}
 use lib.Dec.{eqb}
 use borrow.Author.Tests.{eq-eqb, not-true}
-use Rattle.std.proofs.Common.{Option, Some, None, Contains, slice_get, filter_map}
-use Rattle.std.proofs.lemmas.List.{take_all, get_or_default}
+use Rattle.std.proofs.Common.{Option, Some, None, Contains, slice_get}
+use Rattle.std.proofs.lemmas.List.{take_all}
 use Rattle.std.proofs.lemmas.Option.{slice_get-get_or}
 use Rattle.std.proofs.lemmas.List.Elements.{filter_map-append, Contains-get_or, Contains-append_cases}
 use Rattle.laws.proofs.Tests.{both, true_false}
 use Rattle.geometry.specs.declared.Rect.{Rect}
 use Rattle.geometry.specs.Cuts.{FullBox}
+use Rattle.geometry.specs.Places.{Listed}
+use Rattle.geometry.proofs.Listing.{listed_more}
 use Rattle.spacing.specs.declared.region.Region.{Region}
 use Rattle.spacing.specs.Regions.{holds_square}
 use Rattle.spacing.specs.Nearness.{is_near, covers_box, is_idle, is_spare, Divisible}
@@ -24,9 +26,9 @@ use Rattle.spacing.proofs.Distances.{none_held, all_held, some_held}
 use Rattle.spacing.proofs.Gains.{idle_held}
 use Rattle.free.specs.declared.left.Left.{Left}
 use Rattle.free.specs.Free.{held_by, AgreeOn}
-use Rattle.free.specs.Places.{Listed, at_places}
-use Rattle.free.specs.Counting.{regions_left, Enough}
-use Rattle.free.proofs.Held.{held_none, held_one, held_append}
+use Rattle.free.specs.Places.{at_places}
+use Rattle.free.specs.Counting.{Enough}
+use Rattle.free.proofs.Held.{held_one, held_append}
 
 -- ---- the regions at places
 
@@ -43,12 +45,6 @@ at_one t p r e = rw e
 
 at_more : (t : List Region) (ps : List ℕ) (p : ℕ) (r : Region) → At t p r → at_places t (ps ++ (p ∷ [])) ≡ at_places t ps ++ (r ∷ [])
 at_more t ps p r e = filter_map-append (slice_get t) ps (p ∷ []) ∙ ap (λ (l : List Region). at_places t ps ++ l) (at_one t p r e)
-
-pub listed_more : (t : List Region) (ps : List ℕ) (p : ℕ) → Listed t ps → p < length t → Listed t (ps ++ (p ∷ []))
-listed_more t [] p l h zero k = h
-listed_more t [] p l h (suc i) k = absurd (omega arith)
-listed_more t (a ∷ ps) p l h zero k = l zero (omega arith)
-listed_more t (a ∷ ps) p l h (suc i) k = listed_more t ps p (λ j q. l (suc j) (omega arith)) h i (omega arith)
 
 -- the places of the first i regions, and of one more
 pub next_place : (t : List Region) (ps : List ℕ) (i : ℕ) → i < length t → at_places t ps ≡ take i t → at_places t (ps ++ (i ∷ [])) ≡ take (i + 1) t
@@ -111,7 +107,7 @@ pub keeping_starts : (t : List Region) (ps : List ℕ) (lead : ℕ) (c : Region)
 keeping_starts t ps lead c b =
     record {
       few = omega arith;
-      listed = λ i q. absurd (omega arith);
+      listed = λ i d q. absurd (omega arith);
       same = λ x y p q r s. refl;
       led = λ h. absurd (omega (arith, h.1));
       divisible = λ q. absurd (omega arith);

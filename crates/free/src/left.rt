@@ -1,7 +1,7 @@
 // The regions of a table that are left for a box.
 ghost use Rattle.std.specs.Prelude.{◌≤◌, length};
 ghost use Rattle.spacing.specs.Sizes.{live_room};
-ghost use Rattle.free.specs.Places.{Listed};
+ghost use Rattle.geometry.specs.Places.{Listed};
 
 use arrayvec::ArrayVec;
 use geometry::{MOST_RECTS, Rect};

@@ -4,7 +4,8 @@
 ghost use Rattle.std.specs.Prelude.{◌≡◌, ◌≤◌, length};
 ghost use Rattle.spacing.specs.Sizes.{SmallBox, live_room};
 ghost use Rattle.free.specs.Free.{free_in, Serves, Fillable};
-ghost use Rattle.free.specs.Places.{Listed, at_places};
+ghost use Rattle.geometry.specs.Places.{Listed};
+ghost use Rattle.free.specs.Places.{at_places};
 
 use arrayvec::ArrayVec;
 use counting::is_empty;

@@ -21,12 +21,7 @@ impl Default for Region {
         ensures { result.reach ≡ 0 }
     {
         Region {
-            core: Rect {
-                x1: 0,
-                y1: 0,
-                x2: 0,
-                y2: 0,
-            },
+            core: Rect::default(),
             reach: 0,
         }
     }

@@ -1,5 +1,6 @@
 use native.Mathlib.Omega.{arith}
-use Rattle.free.proofs.Places.{listed_more, next_place}
+use Rattle.geometry.proofs.Listing.{listed_more}
+use Rattle.free.proofs.Places.{next_place}
 use Rattle.free.proofs.all_places.Goals as goal
 
 pub loop-i-preserved : goal.loop-i-preserved

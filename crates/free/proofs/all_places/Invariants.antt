@@ -1,6 +1,7 @@
 -- The places so far are those of the regions before the index.
 use Rattle.std.proofs.Common.{◌≡◌, length, take}
-use Rattle.free.specs.Places.{Listed, at_places}
+use Rattle.geometry.specs.Places.{Listed}
+use Rattle.free.specs.Places.{at_places}
 use Rattle.free.proofs.all_places.Given as goal
 
 abbrev pub invariant-loop-i : goal.invariant-loop-i

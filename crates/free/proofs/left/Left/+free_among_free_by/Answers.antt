@@ -1,8 +1,6 @@
 -- The two parts of a box that is cut have its free squares, and the places that are kept are enough for a box.
-use mathlib.Core.Path.{ap, ◌∙◌}
+use mathlib.Core.Path.{◌∙◌}
 use native.Mathlib.Omega.{arith}
-use Rattle.free.specs.Free.{free_in}
-use Rattle.free.specs.Places.{at_places}
 use Rattle.free.proofs.Held.{agree_free}
 use Rattle.free.proofs.Settling.{covered_free}
 use Rattle.free.proofs.Halves.{both_free, both_fit}
