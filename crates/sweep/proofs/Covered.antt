@@ -1,28 +1,30 @@
 -- Strips: what the loop over the places writes, that the sides which it writes rise, and that what is added up along a strip is the covered area.
-use Prim.Native.Nat.{ℕ, zero, suc, ◌+◌, ◌-◌, ◌*◌, ◌/◌, ◌≤◌, ◌<◌, max}
+use Prim.Native.Nat.{ℕ, zero, suc, ◌+◌, ◌-◌, ◌*◌, ◌≤◌, ◌<◌, max}
 use mathlib.Core.Path.{◌≡◌, refl, sym, ap, ap₂, ◌∙◌, subst, subst₂}
 use mathlib.Core.Logic.{◌⊎◌, inl, inr}
 use mathlib.Core.List.{List, [], ◌∷◌, ◌++◌}
 use native.Mathlib.Numerals.{add-one}
 use native.Mathlib.Omega.{arith}
-use lib.ListN.{length, get_or, set, take, drop, length-append, drop_of_length-le}
+use lib.ListN.{length, get_or, set, take, drop, length-append, drop_of_length-le, get_or-eq_default}
 use lib.Seq.{drop-cons, length-take-le}
 use borrow.Author.Tests.{lt-ltb, le-ltb}
+use Rattle.std.specs.Prelude.{All}
+use Rattle.std.proofs.lemmas.List.Elements.{All-get_or}
 use Rattle.laws.proofs.Tests.{le_or_lt}
 use Rattle.buffers.specs.Written.{Written, Front}
 use Rattle.buffers.proofs.Writing.{two_stored, none_stored}
 use Rattle.buffers.proofs.Fronts.{FrontSoFar, front_moves, front_ends, front_fits, front_behind, front_first, front_second}
 use Rattle.geometry.specs.declared.Rect.{Rect}
-use Rattle.geometry.specs.Sizes.{widest}
+use Rattle.geometry.specs.Sizes.{widest, SmallSides}
 use Rattle.geometry.specs.Count.{one_if, rect_sum}
-use Rattle.geometry.specs.Layout.{covered, covered_area, rects_of, Layer}
+use Rattle.geometry.specs.Layout.{covered, covered_area, Layer}
 use Rattle.geometry.specs.Overlaps.{common}
 use Rattle.geometry.proofs.Counting.{rect_cong, rect_plus, box_cut_columns}
 use Rattle.geometry.proofs.Overlaps.{overlap_is_area}
 use Rattle.sweep.specs.declared.Lengths.{Lengths}
 use Rattle.sweep.specs.declared.Side.{Side}
 use Rattle.sweep.specs.declared.Side.TheVariants.{Low, High}
-use Rattle.sweep.specs.Order.{column, column_on, places_by}
+use Rattle.sweep.specs.Order.{column, rect_at, column_on, places_by}
 use Rattle.sweep.specs.Strips.{sides_room, strip_room, side_part, rows_on, sides_at, strip_sides, side_sum, ramps, Rising, Sides, StripOf, StripIn}
 use Rattle.sweep.proofs.Sums.{rising_weaken}
 use Rattle.sweep.proofs.Sorted.{Ascending, place_sum, places_sum, ordered_ascends, ordered_length}
@@ -59,31 +61,45 @@ side_known l at v h a b m r e f w = subst₂ (λ (a b : ℕ). Written l at (side
 
 -- ---- the loop over the places
 
-module _ (table : List ℕ) (side : Side) (y1 y2 : ℕ) (places before out : List ℕ) (at i : ℕ)
-    (s : FrontSoFar (sides_at table side y1 y2) 2 places before out at i) (room : 2 * length places ≤ length before) where
+module _ (rects : List Rect) (side : Side) (y1 y2 : ℕ) (places before out : List ℕ) (at i : ℕ)
+    (s : FrontSoFar (sides_at rects side y1 y2) 2 places before out at i) (room : 2 * length places ≤ length before) where
   pub sides_room_lem : i < length places → at + 2 ≤ length out
   sides_room_lem h = omega (arith, s.behind, s.same)
 
-  pub sides_next : (m : List ℕ) (v h r : ℕ) → i < length places → v ≡ column_on table side (get_or places i 0) → h ≡ rows_on table y1 y2 (get_or places i 0) →
-      Written out at (side_part v h) m r → FrontSoFar (sides_at table side y1 y2) 2 places before m r (i + 1)
+  pub sides_next : (m : List ℕ) (v h r : ℕ) → i < length places → v ≡ column_on rects side (get_or places i 0) → h ≡ rows_on rects y1 y2 (get_or places i 0) →
+      Written out at (side_part v h) m r → FrontSoFar (sides_at rects side y1 y2) 2 places before m r (i + 1)
   unfolding sides_at
   sides_next m v h r more column rows p =
-      front_moves (sides_at table side y1 y2) 2 places before out at i s room 1 _ m r (omega arith)
-      (part_short (column_on table side (get_or places i 0)) (rows_on table y1 y2 (get_or places i 0)))
-      (ap (sides_at table side y1 y2) (drop-cons places i 0 more ∙ ap (λ (k : ℕ). get_or places i 0 ∷ drop k places) (sym (add-one i))))
+      front_moves (sides_at rects side y1 y2) 2 places before out at i s room 1 _ m r (omega arith)
+      (part_short (column_on rects side (get_or places i 0)) (rows_on rects y1 y2 (get_or places i 0)))
+      (ap (sides_at rects side y1 y2) (drop-cons places i 0 more ∙ ap (λ (k : ℕ). get_or places i 0 ∷ drop k places) (sym (add-one i))))
       (side_known out at _ _ v h m r column rows p)
 
-  pub sides_end : length places ≤ i → Front before (sides_at table side y1 y2 places) out at
+  pub sides_end : length places ≤ i → Front before (sides_at rects side y1 y2 places) out at
   unfolding sides_at
-  sides_end h = front_ends (sides_at table side y1 y2) 2 places before out at i s room (ap (sides_at table side y1 y2) (drop_of_length-le places {i = i} h))
+  sides_end h = front_ends (sides_at rects side y1 y2) 2 places before out at i s room (ap (sides_at rects side y1 y2) (drop_of_length-le places {i = i} h))
 
-pub sides_known : (table : List ℕ) (side : Side) (y1 y2 : ℕ) (places before after : List ℕ) (r : ℕ) → places ≡ places_by table side →
-    Front before (sides_at table side y1 y2 places) after r → Front before (strip_sides table side y1 y2) after r
-sides_known table side y1 y2 places before after r e f = subst (λ (l : List ℕ). Front before (sides_at table side y1 y2 l) after r) e f
+pub sides_known : (rects : List Rect) (side : Side) (y1 y2 : ℕ) (places before after : List ℕ) (r : ℕ) → places ≡ places_by rects side →
+    Front before (sides_at rects side y1 y2 places) after r → Front before (strip_sides rects side y1 y2) after r
+sides_known rects side y1 y2 places before after r e f = subst (λ (l : List ℕ). Front before (sides_at rects side y1 y2 l) after r) e f
 
 -- ---- what a list of sides has of the rectangles
 
-module _ (t : List ℕ) (side : Side) (y1 y2 : ℕ) where
+rect_small : (t : List Rect) (p : ℕ) → All SmallSides t → SmallSides (rect_at t p)
+rect_small t p h = go (le_or_lt (length t) p)
+  where
+    none : Rect
+    none = record { x1 = 0; y1 = 0; x2 = 0; y2 = 0 }
+
+    go : (length t ≤ p) ⊎ (p < length t) → SmallSides (rect_at t p)
+    go (inl l) = rw (get_or-eq_default t none l) (record { left = omega arith; right = omega arith; low = omega arith; high = omega arith })
+    go (inr l) = All-get_or SmallSides t p none l h
+
+column_small : (side : Side) (r : Rect) → SmallSides r → column side r ≤ widest
+column_small Low r h = h.left
+column_small High r h = omega (arith, h.left, h.right)
+
+module _ (t : List Rect) (side : Side) (y1 y2 : ℕ) where
   sides_rise : (b : ℕ) (l : List ℕ) → Ascending t (column_on t side) b l → Rising b (sides_at t side y1 y2 l)
   unfolding Rising Ascending sides_at
   sides_rise b [] r = tt
@@ -108,25 +124,21 @@ module _ (t : List ℕ) (side : Side) (y1 y2 : ℕ) where
   two_numbers k v h s p q r (suc zero) = q
   two_numbers k v h s p q r (suc (suc i)) = r i
 
-  column_small : (side : Side) (k p : ℕ) → ((i : ℕ) → get_or t i 0 ≤ k) → column_on t side p ≤ k
-  column_small Low k p h = h p
-  column_small High k p h = omega (arith, h p, h (p + 2))
-
-  sides_small : (k : ℕ) → ((i : ℕ) → get_or t i 0 ≤ k) → (l : List ℕ) → (i : ℕ) → get_or (sides_at t side y1 y2 l) i 0 ≤ k
+  sides_small : All SmallSides t → (l : List ℕ) → (i : ℕ) → get_or (sides_at t side y1 y2 l) i 0 ≤ widest
   unfolding sides_at
-  sides_small k h [] = λ i. omega arith
-  sides_small k h (p ∷ l) =
-      part_either (column_on t side p) (rows_on t y1 y2 p) (λ q. (i : ℕ) → get_or (q ++ sides_at t side y1 y2 l) i 0 ≤ k)
-      (λ _. two_numbers k (column_on t side p) (rows_on t y1 y2 p) (sides_at t side y1 y2 l) (column_small side k p h) (omega (arith, h (p + 3)))
-      (sides_small k h l))
-      (λ _. sides_small k h l)
+  sides_small h [] = λ i. omega arith
+  sides_small h (p ∷ l) =
+      part_either (column_on t side p) (rows_on t y1 y2 p) (λ q. (i : ℕ) → get_or (q ++ sides_at t side y1 y2 l) i 0 ≤ widest)
+      (λ _. two_numbers widest (column_on t side p) (rows_on t y1 y2 p) (sides_at t side y1 y2 l) (column_small side (rect_at t p) (rect_small t p h))
+      (omega (arith, (rect_small t p h).high)) (sides_small h l))
+      (λ _. sides_small h l)
 
   pub strip_sides_lem : Layer t → Sides (strip_sides t side y1 y2)
   strip_sides_lem d =
       record {
-        few = omega (arith, sides_few (places_by t side), ordered_length (column_on t side) (length t / 4), d.few);
-        small = sides_small widest d.small (places_by t side);
-        rising = sides_rise 0 (places_by t side) (ordered_ascends t (column_on t side) (length t / 4) (omega arith));
+        few = omega (arith, sides_few (places_by t side), ordered_length (column_on t side) (length t), d.few);
+        small = sides_small d.small (places_by t side);
+        rising = sides_rise 0 (places_by t side) (ordered_ascends t (column_on t side) (length t) (omega arith));
       }
 
   -- a sum over the sides is one over the rectangles, if a side without rows adds nothing
@@ -147,7 +159,7 @@ module _ (t : List ℕ) (side : Side) (y1 y2 : ℕ) where
         part_sum (column_on t side p) (rows_on t y1 y2 p) (sides_at t side y1 y2 l)
         ∙ ap (λ (n : ℕ). g (column_on t side p) (rows_on t y1 y2 p) + n) (sides_sum l)
 
-    pub strip_sum_lem : side_sum g (strip_sides t side y1 y2) ≡ rect_sum (rects_of t) (λ r. g (column side r) (common r.y1 r.y2 y1 y2))
+    pub strip_sum_lem : side_sum g (strip_sides t side y1 y2) ≡ rect_sum t (λ r. g (column side r) (common r.y1 r.y2 y1 y2))
     strip_sum_lem = sides_sum (places_by t side) ∙ places_sum t side (λ r. g (column side r) (common r.y1 r.y2 y1 y2))
 
 -- ---- ramps and areas
@@ -156,7 +168,7 @@ module _ (t : List ℕ) (side : Side) (y1 y2 : ℕ) where
 one_rect : (a b h x : ℕ) → h * (x - a) ≡ common a b 0 x * h + h * (x - max a b)
 one_rect a b h x = let e : x - a ≡ common a b 0 x + (x - max a b) = omega arith in omega (arith, ap (λ (k : ℕ). h * k) e)
 
-module _ (t : List ℕ) (y1 y2 : ℕ) where
+module _ (t : List Rect) (y1 y2 : ℕ) where
   abbrev between : (x1 x2 : ℕ) → Rect
   between x1 x2 = record { x1 = x1; y1 = y1; x2 = x2; y2 = y2 }
 
@@ -166,30 +178,30 @@ module _ (t : List ℕ) (y1 y2 : ℕ) where
   abbrev highs : List ℕ
   highs = strip_sides t High y1 y2
 
-  ramps_of : (side : Side) (x : ℕ) → ramps (strip_sides t side y1 y2) x ≡ rect_sum (rects_of t) (λ r. common r.y1 r.y2 y1 y2 * (x - column side r))
+  ramps_of : (side : Side) (x : ℕ) → ramps (strip_sides t side y1 y2) x ≡ rect_sum t (λ r. common r.y1 r.y2 y1 y2 * (x - column side r))
   ramps_of side x = strip_sum_lem t side y1 y2 (λ v h. h * (x - v)) (λ v. omega arith)
 
   -- the covered area left of a column
-  left_area : Layer t → (x : ℕ) → ramps lows x ≡ covered_area (rects_of t) (between 0 x) + ramps highs x
+  left_area : Layer t → (x : ℕ) → ramps lows x ≡ covered_area t (between 0 x) + ramps highs x
   left_area d x =
       ramps_of Low x
-      ∙ rect_cong (rects_of t) _ _ (λ r. one_rect r.x1 r.x2 (common r.y1 r.y2 y1 y2) x)
-      ∙ rect_plus (rects_of t) _ _
-      ∙ ap₂ ◌+◌ (sym (overlap_is_area (rects_of t) (between 0 x) d.apart)) (sym (ramps_of High x))
+      ∙ rect_cong t _ _ (λ r. one_rect r.x1 r.x2 (common r.y1 r.y2 y1 y2) x)
+      ∙ rect_plus t _ _
+      ∙ ap₂ ◌+◌ (sym (overlap_is_area t (between 0 x) d.apart)) (sym (ramps_of High x))
 
   -- and between two columns
   pub strip_area_lem : Layer t → (x1 x2 : ℕ) → x1 ≤ x2 →
-      ramps lows x2 + ramps highs x1 ≡ covered_area (rects_of t) (between x1 x2) + (ramps lows x1 + ramps highs x2)
+      ramps lows x2 + ramps highs x1 ≡ covered_area t (between x1 x2) + (ramps lows x1 + ramps highs x2)
   strip_area_lem d x1 x2 h =
       omega (
         arith,
         left_area d x1,
         left_area d x2,
-        box_cut_columns 0 y1 x2 y2 x1 (λ x y. one_if (covered (rects_of t) x y)) (omega arith) h,
+        box_cut_columns 0 y1 x2 y2 x1 (λ x y. one_if (covered t x y)) (omega arith) h,
       )
 
 -- so what the rows hold is a strip of theirs
-strip_of : (t : List ℕ) (y1 y2 : ℕ) → Layer t → StripOf t y1 y2 (strip_sides t Low y1 y2) (strip_sides t High y1 y2)
+strip_of : (t : List Rect) (y1 y2 : ℕ) → Layer t → StripOf t y1 y2 (strip_sides t Low y1 y2) (strip_sides t High y1 y2)
 strip_of t y1 y2 d =
     record {
       low = refl;
@@ -204,7 +216,7 @@ strip_of t y1 y2 d =
     }
 
 -- written at the front of a buffer that has room for both kinds of sides
-module _ (t : List ℕ) (side : Side) (y1 y2 : ℕ) (places before after : List ℕ) (r : ℕ) (p : Front before (sides_at t side y1 y2 places) after r)
+module _ (t : List Rect) (side : Side) (y1 y2 : ℕ) (places before after : List ℕ) (r : ℕ) (p : Front before (sides_at t side y1 y2 places) after r)
     (few : 2 * length places ≤ sides_room) where
   pub sides_count : r ≤ sides_room
   sides_count = omega (arith, p.count, sides_few t side y1 y2 places)
@@ -212,7 +224,7 @@ module _ (t : List ℕ) (side : Side) (y1 y2 : ℕ) (places before after : List 
   pub room_behind : (n : ℕ) → n ≤ sides_room → strip_room ≤ length before → n ≤ length (take (length after - r) (drop r after))
   room_behind n h room = omega (arith, sides_count, front_behind before (sides_at t side y1 y2 places) after r p)
 
-module _ (t : List ℕ) (y1 y2 : ℕ) (before after : List ℕ) (r : Lengths) (d : Layer t) (e : r.low ≡ length (lows t y1 y2))
+module _ (t : List Rect) (y1 y2 : ℕ) (before after : List ℕ) (r : Lengths) (d : Layer t) (e : r.low ≡ length (lows t y1 y2))
     (p : Front before (lows t y1 y2 ++ highs t y1 y2) after r.both) where
   pub strip_lent : StripIn t y1 y2 after r
   strip_lent =
@@ -225,7 +237,7 @@ module _ (t : List ℕ) (y1 y2 : ℕ) (before after : List ℕ) (r : Lengths) (d
       }
 
 -- what slicing it asks
-module _ (t : List ℕ) (y1 y2 : ℕ) (buffer : List ℕ) (r : Lengths) (s : StripIn t y1 y2 buffer r) where
+module _ (t : List Rect) (y1 y2 : ℕ) (buffer : List ℕ) (r : Lengths) (s : StripIn t y1 y2 buffer r) where
   pub low_count : r.low ≡ length (take r.low buffer)
   low_count = sym (length-take-le r.low buffer (omega (arith, s.order, s.within)))
 

@@ -10,7 +10,7 @@ use native.Mathlib.Omega.{arith}
 use lib.Dec.{ltb}
 use lib.ListN.{length, get_or, drop, length-drop}
 use lib.Seq.{drop-cons}
-use borrow.Author.Tests.{ltb-true, lt-ltb, le-ltb}
+use borrow.Author.Tests.{ltb-true, lt-ltb}
 use Rattle.laws.proofs.Tests.{le_or_lt, both, true_false}
 use Rattle.geometry.specs.Sizes.{widest, largest, most_rects}
 use Rattle.geometry.proofs.Totals.{small_product}
@@ -20,14 +20,6 @@ use Rattle.sweep.specs.declared.Frame.{Frame}
 use Rattle.sweep.specs.Strips.{side_sum, ramps, strip_sum, Rising, Sides, Strip}
 use Rattle.sweep.specs.Cursors.{left_sum, cursor_at, is_left, StandsBefore, edges_at, EdgesBefore, frame_at, no_sides, start_frame, TrueArea, Behind, ColumnsInOrder}
 use Rattle.sweep.proofs.Sums.{ramps_formed, rising_weaken, none_left, left_of, passed_at, left_split, rising_passed, passed_within, sum_small, left_small}
-
--- ---- whether a side is left of a column
-
-pub short_not_left : (s : List ℕ) (at x : ℕ) → length s ≤ suc at → false ≡ is_left s at x
-short_not_left s at x h = rw (le-ltb (suc at) (length s) h)
-
-pub left_by_column : (s : List ℕ) (at x : ℕ) → suc at < length s → ltb (get_or s at 0) x ≡ is_left s at x
-left_by_column s at x h = rw (lt-ltb (suc at) (length s) h)
 
 -- ---- the loop
 

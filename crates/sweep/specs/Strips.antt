@@ -3,12 +3,13 @@
 -- (`StripOf`, which `sweep::strip` gives).
 use Rattle.std.specs.Prelude.{ℕ, ◌+◌, ◌-◌, ◌*◌, ◌≤◌, ◌≡◌, true, false, List, [], ◌∷◌, ◌++◌, ltb, length, get_or, take, drop}
 use Rattle.geometry.specs.Sizes.{widest, most_rects}
-use Rattle.geometry.specs.Layout.{covered_area, rects_of, Layer}
+use Rattle.geometry.specs.declared.Rect.{Rect}
+use Rattle.geometry.specs.Layout.{covered_area, Layer}
 use Rattle.geometry.specs.Overlaps.{common}
 use Rattle.sweep.specs.declared.Lengths.{Lengths}
 use Rattle.sweep.specs.declared.Side.{Side}
 use Rattle.sweep.specs.declared.Side.TheVariants.{Low, High}
-use Rattle.sweep.specs.Order.{column_on, places_by, side_order}
+use Rattle.sweep.specs.Order.{rect_at, column_on, places_by, side_order}
 
 -- the numbers of a strip's sides of one kind, two for each of 1,024 rectangles
 abbrev pub sides_room : ℕ
@@ -23,17 +24,17 @@ abbrev pub side_part : (column rows : ℕ) → List ℕ
 side_part v h = elim (ltb 0 h) [ true ↦ v ∷ h ∷ [] | false ↦ [] ]
 
 -- the rows from y1 to y2 that the rectangle at a place has
-abbrev pub rows_on : (table : List ℕ) → (y1 y2 place : ℕ) → ℕ
-rows_on table y1 y2 p = common (get_or table (p + 1) 0) (get_or table (p + 3) 0) y1 y2
+abbrev pub rows_on : List Rect → (y1 y2 place : ℕ) → ℕ
+rows_on rects y1 y2 p = let r = rect_at rects p in common r.y1 r.y2 y1 y2
 
 -- what the rows y1 to y2 hold of a side of the rectangles at some places
-unfoldable pub sides_at : (table : List ℕ) → Side → (y1 y2 : ℕ) → (places : List ℕ) → List ℕ
-sides_at table side y1 y2 [] = []
-sides_at table side y1 y2 (p ∷ l) = side_part (column_on table side p) (rows_on table y1 y2 p) ++ sides_at table side y1 y2 l
+unfoldable pub sides_at : List Rect → Side → (y1 y2 : ℕ) → (places : List ℕ) → List ℕ
+sides_at rects side y1 y2 [] = []
+sides_at rects side y1 y2 (p ∷ l) = side_part (column_on rects side p) (rows_on rects y1 y2 p) ++ sides_at rects side y1 y2 l
 
 -- and of all rectangles, in rising order
-abbrev pub strip_sides : (table : List ℕ) → Side → (y1 y2 : ℕ) → List ℕ
-strip_sides table side y1 y2 = sides_at table side y1 y2 (places_by table side)
+abbrev pub strip_sides : List Rect → Side → (y1 y2 : ℕ) → List ℕ
+strip_sides rects side y1 y2 = sides_at rects side y1 y2 (places_by rects side)
 
 -- the sum of g over the sides of a list
 unfoldable pub side_sum : (ℕ → ℕ → ℕ) → List ℕ → ℕ
@@ -68,19 +69,19 @@ pub record Strip (lows highs : List ℕ) : Type 0 where
   pub grows : (x1 x2 : ℕ) → x1 ≤ x2 → ramps lows x1 + ramps highs x2 ≤ ramps lows x2 + ramps highs x1
 
 -- and of a job: rectangles, and the order of their sides, which `order_sides` gives
-pub record Swept (rects order : List ℕ) : Type 0 where
+pub record Swept (rects : List Rect) (order : List ℕ) : Type 0 where
   pub layer : Layer rects
   pub ordered : order ≡ side_order rects
 
 -- the strip of the rows y1 to y2: its two lists, and that what is added up along it is the true area of every box between those rows
-pub record StripOf (rects : List ℕ) (y1 y2 : ℕ) (lows highs : List ℕ) : Type 0 where
+pub record StripOf (rects : List Rect) (y1 y2 : ℕ) (lows highs : List ℕ) : Type 0 where
   pub low : lows ≡ strip_sides rects Low y1 y2
   pub high : highs ≡ strip_sides rects High y1 y2
   pub strip : Strip lows highs
-  pub areas : (x1 x2 : ℕ) → x1 ≤ x2 → strip_sum lows highs x1 x2 ≡ covered_area (rects_of rects) (record { x1 = x1; y1 = y1; x2 = x2; y2 = y2 })
+  pub areas : (x1 x2 : ℕ) → x1 ≤ x2 → strip_sum lows highs x1 x2 ≡ covered_area rects (record { x1 = x1; y1 = y1; x2 = x2; y2 = y2 })
 
 -- and in a buffer: its low sides at the front, its high sides right behind them
-pub record StripIn (rects : List ℕ) (y1 y2 : ℕ) (buffer : List ℕ) (r : Lengths) : Type 0 where
+pub record StripIn (rects : List Rect) (y1 y2 : ℕ) (buffer : List ℕ) (r : Lengths) : Type 0 where
   pub order : r.low ≤ r.both
   pub within : r.both ≤ length buffer
   pub lent : StripOf rects y1 y2 (take r.low buffer) (take (r.both - r.low) (drop r.low buffer))

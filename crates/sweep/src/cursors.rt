@@ -9,14 +9,7 @@ use crate::{Cursor, Edges};
 fn is_left(sides: &[u64], at: usize, x: u64) -> bool
     ensures { result ≡ is_left sides.now at x }
 {
-    if sides.len() < 2 {
-        return false;
-    }
-    if at < sides.len() - 1 {
-        sides[at] < x
-    } else {
-        false
-    }
+    at < sides.len().saturating_sub(1) && sides[at] < x
 }
 
 // From the sums at one column to those at a later one: the sides between are

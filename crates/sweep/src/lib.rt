@@ -11,14 +11,14 @@ mod cursors;
 mod ordering;
 mod strips;
 
-ghost use Rattle.std.specs.Prelude.{◌*◌, ◌/◌, ◌≤◌, ◌≡◌, ◌++◌, length};
+ghost use Rattle.std.specs.Prelude.{◌*◌, ◌≤◌, ◌≡◌, ◌++◌, length};
 ghost use Rattle.buffers.specs.Written.{Front};
 ghost use Rattle.sweep.specs.declared.Side.TheVariants.{Low, High};
 ghost use Rattle.sweep.specs.Order.{side_order};
 ghost use Rattle.sweep.specs.Strips.{strip_room, strip_sides, Strip, Swept, StripIn};
 ghost use Rattle.sweep.specs.Cursors.{start_frame, frame_at, TrueArea, Behind, ColumnsInOrder};
 
-use geometry::MOST_RECTS;
+use geometry::{MOST_RECTS, Rect};
 
 // Room for the places of the low sides and those of the high sides, and for the
 // sides of a strip, of both kinds, two numbers each.
@@ -69,10 +69,10 @@ pub struct Lengths {
     pub both: usize,
 }
 
-// Writes the places of the rectangles in a table at the front of a buffer, in
+// Writes the places of the rectangles of a list at the front of a buffer, in
 // rising order of their low sides, then in rising order of their high sides.
-pub fn order_sides(rects: &[u64], out: &mut [usize]) -> usize
-    requires { 2 * (length rects.now / 4) ≤ length out.old }
+pub fn order_sides(rects: &[Rect], out: &mut [usize]) -> usize
+    requires { 2 * length rects.now ≤ length out.old }
     ensures { Front out.old (side_order rects.now) out.new result }
 {
     let low = ordering::order_by(rects, Side::Low, out);
@@ -83,13 +83,13 @@ pub fn order_sides(rects: &[u64], out: &mut [usize]) -> usize
 // Writes the low sides that the rows y1 to y2 hold at the front of a buffer, and
 // the high sides right behind them: a strip, along which a box's area is the true
 // one.
-pub fn strip(rects: &[u64], order: &[usize], y1: u64, y2: u64, out: &mut [u64]) -> Lengths
+pub fn strip(rects: &[Rect], order: &[usize], y1: u64, y2: u64, out: &mut [u64]) -> Lengths
     requires swept { Swept rects.now order.now }
     requires strip_room_in_bounds { strip_room ≤ length out.old }
     ensures front { Front out.old (strip_sides rects.now Low y1 y2 ++ strip_sides rects.now High y1 y2) out.new result.both }
     ensures strip_in { StripIn rects.now y1 y2 out.new result }
 {
-    let half = rects.len() / 4;
+    let half = rects.len();
     let low = strips::sides_of(rects, &order[..half], Side::Low, y1, y2, out);
     let high = strips::sides_of(rects, &order[half..], Side::High, y1, y2, &mut out[low..]);
     Lengths {

@@ -6,6 +6,7 @@ ghost use Rattle.sweep.specs.Strips.{side_part, rows_on, sides_at};
 
 use crate::Side;
 use crate::ordering::column_at;
+use geometry::Rect;
 
 // Writes a side and its rows at a place, if it has any.
 fn put_side(out: &mut [u64], at: usize, column: u64, rows: u64) -> usize
@@ -21,18 +22,19 @@ fn put_side(out: &mut [u64], at: usize, column: u64, rows: u64) -> usize
     }
 }
 
-// The rows from y1 to y2 that the rectangle at a place of a table has.
-fn rows_at(rects: &[u64], at: usize, y1: u64, y2: u64) -> u64
+// The rows from y1 to y2 that the rectangle at a place of a list has.
+fn rows_at(rects: &[Rect], at: usize, y1: u64, y2: u64) -> u64
     requires { IsPlace rects.now at }
     ensures { result ≡ rows_on rects.now y1 y2 at }
 {
-    geometry::common_length(rects[at + 1], rects[at + 3], y1, y2)
+    let r = rects[at];
+    geometry::common_length(r.y1, r.y2, y1, y2)
 }
 
 // Writes the sides that the rows y1 to y2 hold, in the order of the places that
 // are lent, at the front of a buffer.
 pub(crate) fn sides_of(
-    rects: &[u64],
+    rects: &[Rect],
     places: &[usize],
     side: Side,
     y1: u64,
@@ -44,13 +46,10 @@ pub(crate) fn sides_of(
     ensures { Front out.old (sides_at rects.now side y1 y2 places.now) out.new result }
 {
     let mut at: usize = 0;
-    let mut i: usize = 0;
-    while i < places.len() {
-        let place = places[i];
+    for &place in places {
         let column = column_at(rects, side, place);
         let rows = rows_at(rects, place, y1, y2);
         at = put_side(out, at, column, rows);
-        i += 1;
     }
     at
 }
