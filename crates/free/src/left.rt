@@ -1,0 +1,80 @@
+// The regions of a table that are left for a box.
+ghost use Rattle.std.specs.Prelude.{◌≤◌, length};
+ghost use Rattle.spacing.specs.Sizes.{live_room};
+ghost use Rattle.geometry.specs.Places.{Listed};
+
+use arrayvec::ArrayVec;
+use geometry::{MOST_RECTS, Rect};
+use spacing::Region;
+
+// How many regions may be left for a box, or be live.
+pub(crate) const LIVE_ROOM: usize = MOST_RECTS;
+
+// The regions that are left, by their places in the table. Places are small numbers, so
+// that the lists of all boxes under way take little room.
+#[derive(Clone, Copy)]
+pub(crate) struct Left<'a> {
+    pub(crate) regions: &'a [Region],
+    pub(crate) places: &'a [u16],
+    ghost listed: { Listed regions.now places.now },
+    ghost few: { length places.now ≤ live_room },
+}
+
+impl<'a> Left<'a> {
+    ghost use Rattle.std.specs.Prelude.{◌<◌, ◌≡◌, true, MatchOption, Contains, Some, slice_get};
+    ghost use Rattle.geometry.specs.Cuts.{FullBox};
+    ghost use Rattle.free.specs.Free.{held_by, AgreeOn};
+    ghost use Rattle.free.specs.Counting.{regions_left, Enough};
+
+    // The region at a place.
+    pub(crate) fn region(self, place: u16) -> Region
+        requires { place < length self.regions.now }
+        ensures { slice_get self.entry.regions.now place ≡ Some result }
+    {
+        self.regions[usize::from(place)]
+    }
+
+    // The places of those that come near a box and that the one at place `lead` does not
+    // make idle, or none where one covers it. The contract leaves open which are kept:
+    // they hold all squares of the box that the others do.
+    pub(crate) fn keep_near(self, lead: u16, b: Rect) -> Option<ArrayVec<u16, LIVE_ROOM>>
+        requires full_box { FullBox b }
+        requires has_lead { Contains self.places.now lead }
+        ensures { MatchOption result (AgreeOn b (held_by (regions_left self.entry)) (λ x y. true)) (λ own. Enough self.entry b own.items) }
+    {
+        let c = self.region(lead);
+        let mut own = ArrayVec::new();
+        for &place in self.places {
+            let r = self.region(place);
+            if r.is_near(b) {
+                if r.covers_box(b) {
+                    return None;
+                }
+                if !r.is_spare(place, lead, c, b) {
+                    own.push(place);
+                }
+            }
+        }
+        Some(own)
+    }
+
+    // The place of the region that the nearest square of a box lies deepest in: it is
+    // likely to make many others idle. The contract leaves open which it is, since every
+    // one gives the same count.
+    pub(crate) fn deepest(self, b: Rect) -> u16
+        requires full_box { FullBox b }
+        requires some { 0 < length self.places.now }
+        ensures { Contains self.entry.places.now result }
+    {
+        let mut lead = self.places[0];
+        let mut most = 0;
+        for &place in self.places {
+            let depth = self.region(place).depth_in(b);
+            if most < depth {
+                lead = place;
+                most = depth;
+            }
+        }
+        lead
+    }
+}
