@@ -57,10 +57,11 @@ pub fn fillable(regions: &[Region], b: Rect) -> u64
     }
     let places = all_places(regions);
     let left = Left {
+        bounds: b,
         regions,
         places: places.as_slice(),
     };
-    left.free_by(places[0], b)
+    left.free_by(places[0])
 }
 
 // A part of a table that is enough for a box and for every box inside: from the
