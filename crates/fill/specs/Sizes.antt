@@ -2,7 +2,6 @@
 -- public functions names it, and every accepted job has it.
 use Rattle.std.specs.Prelude.{ℕ, ◌≤◌, List}
 use Rattle.geometry.specs.Sizes.{widest, top_bound}
-use Rattle.geometry.specs.declared.Rect.{Rect}
 use Rattle.tiles.specs.Sizes.{Tiled}
 use Rattle.tiles.specs.declared.Plan.{Plan}
 
