@@ -1,6 +1,6 @@
 -- How the code reads areas: windows by their spans, and a row of windows by its strip. A buyer need not read it: no contract of the unit's
--- public functions names it. The step u that windows are bloated or shrunk by is the level's in the second pass, and 0, which leaves them standard, in
--- the first.
+-- public functions names it. Windows are bloated or shrunk by a reach u: the level's step in the second pass, and 0, which leaves them standard,
+-- in the first.
 use Rattle.std.specs.Prelude.{ℕ, ◌+◌, ◌≤◌, ◌<◌, min, List}
 use Rattle.geometry.specs.declared.Sense.{Sense}
 use Rattle.geometry.specs.declared.Sense.TheVariants.{Greatest, Least}
@@ -19,10 +19,10 @@ span_to Least n w u x = x + w
 
 -- the area of the far window at (x, y) in the strip of the row y, which is all that y decides
 abbrev pub along_strip : (lows highs : List ℕ) → Grid → (u x y : ℕ) → ℕ
-along_strip lows highs g u x y = strip_sum lows highs (span_from g.sense u x) (span_to g.sense g.n g.w u x)
+along_strip lows highs g u x y = strip_sum lows highs (span_from g.sense u x) (span_to g.sense g.size g.window u x)
 
 -- start i of a row, whose window is bloated or shrunk by u
 pub record OnRow (g : Grid) (u i : ℕ) : Type 0 where
   pub sized : Sized g
-  pub step_fits : u ≤ g.w
+  pub reach_fits : u ≤ g.window
   pub within : i < g.starts
