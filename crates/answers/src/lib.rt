@@ -8,7 +8,7 @@ ghost use Rattle.answers.specs.Room.{number_room, exact_room, zoom_word_room, en
 ghost use Rattle.answers.specs.Writing.{WrittenIn};
 
 use extremes::Extremes;
-use fill::{Bound, Verdict};
+use fill::{Bound, Failure, Verdict};
 use geometry::Sense;
 use levels::Level;
 use positions::Tally;
@@ -166,22 +166,22 @@ fn write_bound(b: Bound, out: &mut [u8], at: usize) -> usize
     }
 }
 
-fn write_start(b: Bound, column: u64, row: u64, out: &mut [u8], at: usize) -> usize
+fn write_start(f: Failure, out: &mut [u8], at: usize) -> usize
     requires { at + start_room ≤ length out.old }
-    ensures { WrittenIn start_room out.old at (failing_start b column row) out.new result }
+    ensures { WrittenIn start_room out.old at (failing_start f) out.new result }
 {
-    let next = write_bound(b, out, at);
-    let values = [column, row];
+    let next = write_bound(f.bound, out, at);
+    let values = [f.column, f.row];
     write_line(b" # #)\n", &values, out, next)
 }
 
 // Writes a verdict's word and the failing start that it names.
-fn write_failing(word: &[u8], b: Bound, column: u64, row: u64, out: &mut [u8], at: usize) -> usize
+fn write_failing(word: &[u8], f: Failure, out: &mut [u8], at: usize) -> usize
     requires { at + (length word.now + start_room) ≤ length out.old }
-    ensures { WrittenIn (length word.now + start_room) out.old at (word.now ++ failing_start b column row) out.new result }
+    ensures { WrittenIn (length word.now + start_room) out.old at (word.now ++ failing_start f) out.new result }
 {
     let next = write_word(word, out, at);
-    write_start(b, column, row, out, next)
+    write_start(f, out, next)
 }
 
 fn write_verdict(v: Verdict, out: &mut [u8], at: usize) -> usize
@@ -190,15 +190,8 @@ fn write_verdict(v: Verdict, out: &mut [u8], at: usize) -> usize
 {
     match v {
         Verdict::Safe => write_word(b"(fill safe)\n", out, at),
-        Verdict::Broken(b, column, row) => write_failing(b"(fill broken", b, column, row, out, at),
-        Verdict::Undecided(b, column, row) => write_failing(
-            b"(fill undecided",
-            b,
-            column,
-            row,
-            out,
-            at,
-        ),
+        Verdict::Broken(f) => write_failing(b"(fill broken", f, out, at),
+        Verdict::Undecided(f) => write_failing(b"(fill undecided", f, out, at),
     }
 }
 

@@ -17,7 +17,6 @@ use Rattle.geometry.specs.declared.Rect.{Rect}
 use Rattle.geometry.specs.declared.Sense.{Sense}
 use Rattle.geometry.specs.declared.Sense.TheVariants.{Greatest, Least}
 use Rattle.geometry.specs.Count.{one_if, rect_sum}
-use Rattle.geometry.specs.Layout.{rects_of}
 use Rattle.geometry.specs.Overlaps.{common}
 use Rattle.sweep.specs.declared.Side.{Side}
 use Rattle.sweep.specs.declared.Side.TheVariants.{Low, High}
@@ -112,7 +111,7 @@ module _ (shift last : ℕ) where
 
 -- ---- the positions that are tried in a row
 
-module _ (t : List ℕ) (n w y : ℕ) where
+module _ (t : List Rect) (n w y : ℕ) where
   abbrev rows : Rect → ℕ
   rows r = common r.y1 r.y2 y (y + w)
 
@@ -123,36 +122,36 @@ module _ (t : List ℕ) (n w y : ℕ) where
   far s = far_of s (strip_sides t Low y (y + w)) (strip_sides t High y (y + w))
 
   -- a side of the strip stands where a rectangle with rows in it has one
-  side_listed : (side : Side) (shift p : ℕ) → p ≤ n - w → 0 < rect_sum (rects_of t) (λ r. at (p + shift) (column side r) (rows r)) →
+  side_listed : (side : Side) (shift p : ℕ) → p ≤ n - w → 0 < rect_sum t (λ r. at (p + shift) (column side r) (rows r)) →
       Memᴰ p (positions_of shift (n - w) (strip_sides t side y (y + w)))
   side_listed side shift p h k =
       positions_complete shift (n - w) p (strip_sides t side y (y + w)) h
       (subst (λ (i : ℕ). 0 < i) (sym (strip_sum_lem t side y (y + w) (at (p + shift)) (λ v. omega arith))) k)
 
-  near_listed : (s : Sense) (p : ℕ) → p ≤ n - w → 0 < rect_sum (rects_of t) (λ r. at p (near_column s r) (rows r)) →
+  near_listed : (s : Sense) (p : ℕ) → p ≤ n - w → 0 < rect_sum t (λ r. at p (near_column s r) (rows r)) →
       Memᴰ p (positions_of 0 (n - w) (near s))
-  near_listed s p h k = go s (subst (λ (q : ℕ). 0 < rect_sum (rects_of t) (λ r. at q (near_column s r) (rows r))) (sym (add-zero p)) k)
+  near_listed s p h k = go s (subst (λ (q : ℕ). 0 < rect_sum t (λ r. at q (near_column s r) (rows r))) (sym (add-zero p)) k)
     where
-      go : (s : Sense) → 0 < rect_sum (rects_of t) (λ r. at (p + 0) (near_column s r) (rows r)) →
+      go : (s : Sense) → 0 < rect_sum t (λ r. at (p + 0) (near_column s r) (rows r)) →
           Memᴰ p (positions_of 0 (n - w) (near s))
       go Greatest = side_listed Low 0 p h
       go Least = side_listed High 0 p h
 
-  far_listed : (s : Sense) (p : ℕ) → p ≤ n - w → 0 < rect_sum (rects_of t) (λ r. at (p + w) (far_column s r) (rows r)) →
+  far_listed : (s : Sense) (p : ℕ) → p ≤ n - w → 0 < rect_sum t (λ r. at (p + w) (far_column s r) (rows r)) →
       Memᴰ p (positions_of w (n - w) (far s))
   far_listed Greatest p h = side_listed High w p h
   far_listed Least p h = side_listed Low w p h
 
-  sides_listed : (s : Sense) (p : ℕ) → p ≤ n - w → Meets (near_column s) (far_column s) (λ r. common r.y1 r.y2 y (y + w)) w p (rects_of t) →
+  sides_listed : (s : Sense) (p : ℕ) → p ≤ n - w → Meets (near_column s) (far_column s) (λ r. common r.y1 r.y2 y (y + w)) w p t →
       Memᴰ p (tried_row s w (n - w) t y)
-  sides_listed s p h m = go (meets_weight (near_column s) (far_column s) rows w p (rects_of t) m)
+  sides_listed s p h m = go (meets_weight (near_column s) (far_column s) rows w p t m)
     where
-      go : (0 < rect_sum (rects_of t) (λ r. at p (near_column s r) (rows r))) ⊎ (0 < rect_sum (rects_of t) (λ r. at (p + w) (far_column s r) (rows r))) →
+      go : (0 < rect_sum t (λ r. at p (near_column s r) (rows r))) ⊎ (0 < rect_sum t (λ r. at (p + w) (far_column s r) (rows r))) →
           Memᴰ p (tried_row s w (n - w) t y)
       go (inl k) = Memᴰ.tail (Memᴰ.tail (Memᴰ.append_left (positions_of w (n - w) (far s)) (near_listed s p h k)))
       go (inr k) = Memᴰ.tail (Memᴰ.tail (Memᴰ.append_right (positions_of 0 (n - w) (near s)) (far_listed s p h k)))
 
-  pub tried_complete : (s : Sense) (p : ℕ) → p ≤ n - w → Candidate (near_column s) (far_column s) (λ r. common r.y1 r.y2 y (y + w)) w (n - w) p (rects_of t) →
+  pub tried_complete : (s : Sense) (p : ℕ) → p ≤ n - w → Candidate (near_column s) (far_column s) (λ r. common r.y1 r.y2 y (y + w)) w (n - w) p t →
       Memᴰ p (tried_row s w (n - w) t y)
   tried_complete s p h (at_start e) = Memᴰ.head e
   tried_complete s p h (at_end_lem e) = Memᴰ.tail (Memᴰ.head e)

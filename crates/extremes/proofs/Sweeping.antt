@@ -6,66 +6,47 @@ use mathlib.Core.List.{List, [], ◌∷◌, ◌++◌}
 use native.Mathlib.Numerals.{add-two}
 use native.Mathlib.Omega.{arith}
 use lib.ListN.{length, get_or, drop, length-drop}
-use borrow.Author.Tests.{le-leb, lt-leb}
+use Rattle.geometry.specs.declared.Rect.{Rect}
 use Rattle.geometry.specs.declared.Spot.{Spot}
 use Rattle.geometry.specs.declared.Sense.{Sense}
-use Rattle.geometry.specs.Layout.{rects_of}
+use Rattle.geometry.specs.declared.Sense.TheVariants.{Greatest, Least}
 use Rattle.geometry.specs.Extreme.{spot_at}
 use Rattle.sweep.specs.declared.Frame.{Frame}
 use Rattle.sweep.specs.Strips.{Rising, Sides, Strip, StripOf}
-use Rattle.sweep.specs.Cursors.{frame_at, start_frame, Behind, ColumnsInOrder}
+use Rattle.sweep.specs.Cursors.{start_frame, Behind}
 use Rattle.sweep.proofs.Moving.{two_at, true_area, behind_start, behind_later, behind_moved}
-use Rattle.extremes.specs.declared.searching.Row.{Row}
+use Rattle.extremes.specs.declared.search.Row.{Row}
 use Rattle.extremes.specs.declared.searching.Tried.{Tried}
 use Rattle.geometry.specs.Positions.{window_area}
 use Rattle.extremes.specs.Listing.{near_of, far_of}
-use Rattle.extremes.specs.Search.{leading, folded, leading_in_row, strip_area, is_reached, positions_of, tried_in, tried_row, tried_at, tried_by, SmallRow}
-use Rattle.extremes.proofs.Steps.{folded_cong, folded_append}
+use Rattle.extremes.specs.Search.{leading, leading_in_row, strip_area, is_reached, positions_of, tried_in, tried_row, tried_at, tried_by}
+use Rattle.std.specs.List.{fold}
+use Rattle.std.proofs.lemmas.List.Sums.{fold-append}
+use Rattle.std.proofs.lemmas.List.Folds.{fold_along}
 use Rattle.extremes.proofs.Reached.{positions_cons, short_positions}
 
 -- ---- one window
 
-pub window_tried : (lows highs : List ℕ) (row : Row) (x : ℕ) (b r : Spot) (f : Frame) → f ≡ frame_at lows highs x (x + row.w) →
-    r ≡ leading row.sense b (record { area = f.area; x = x; y = row.y }) → ◌≡◌ {A = Tried} (record { frame = f; best = r }) (tried_at lows highs row x b)
-window_tried lows highs row x b r f e h =
-    ap₂ {C = Tried} (λ (f : Frame) (r : Spot). record { frame = f; best = r }) e
-    (h ∙ ap (λ (f : Frame). leading row.sense b (record { area = f.area; x = x; y = row.y })) e)
-
--- a window of a row
-pub window_upright : (row : Row) (x : ℕ) → x ≤ row.last → SmallRow row → ColumnsInOrder x (x + row.w)
-window_upright row x h q = record { order = omega arith; small = omega (arith, q.right) }
-
-module _ (lows highs : List ℕ) (row : Row) (v shift : ℕ) (before : Tried) where
-  pub side_short : v < shift → before ≡ tried_by lows highs row v shift before
-  side_short h = rw (lt-leb shift v h, tried_by, is_reached)
-
-  module _ (h : shift ≤ v) where
-    pub side_late : row.last < v - shift → before ≡ tried_by lows highs row v shift before
-    side_late k = rw (le-leb shift v h, lt-leb (v - shift) row.last k, tried_by, is_reached)
-
-    pub side_tried : (r : Tried) → v - shift ≤ row.last → r ≡ tried_at lows highs row (v - shift) before.best → r ≡ tried_by lows highs row v shift before
-    side_tried r k e = rw (le-leb shift v h, le-leb (v - shift) row.last k, tried_by, is_reached) e
-
 -- a window right of one that was tried
 pub tried_behind : (lows highs : List ℕ) (row : Row) (x p : ℕ) (b : Spot) (t : Tried) → t ≡ tried_at lows highs row x b → x ≤ p →
-    Behind lows highs t.frame p (p + row.w)
+    Behind lows highs t.frame p (p + row.search.w)
 tried_behind lows highs row x p b t e h =
     let moved = ap (λ (t : Tried). t.frame) e in
-    behind_moved lows highs t.frame x (x + row.w) p (p + row.w) moved (true_area lows highs t.frame x (x + row.w) moved (omega arith)) h (omega arith)
+    behind_moved lows highs t.frame x (x + row.search.w) p (p + row.search.w) moved (true_area lows highs t.frame x (x + row.search.w) moved (omega arith)) h (omega arith)
 
 -- ---- the sides of a list, from left to right
 
 -- the leading one of a row's windows at the positions of a list
 abbrev along : (lows highs : List ℕ) → Row → List ℕ → Spot → Spot
-along lows highs row xs b = leading_in_row row.sense (strip_area lows highs row.w) xs row.y b
+along lows highs row xs b = leading_in_row row.search.sense (strip_area lows highs row.search.w) xs row.y b
 
 module _ (lows highs : List ℕ) (row : Row) (sides : List ℕ) (shift : ℕ) (start : Spot) where
   -- the sides before place i were tried; those that are left rise from `reached` on, and the box is not right of where they reach
   pub record Searching (t : Tried) (i : ℕ) : Type 0 where
-    pub whole : along lows highs row (positions_of shift row.last (drop i sides)) t.best ≡ along lows highs row (positions_of shift row.last sides) start
+    pub whole : along lows highs row (positions_of shift row.search.last (drop i sides)) t.best ≡ along lows highs row (positions_of shift row.search.last sides) start
     pub reached : ℕ
     pub rises : Rising reached (drop i sides)
-    pub behind : Behind lows highs t.frame (reached - shift) (reached - shift + row.w)
+    pub behind : Behind lows highs t.frame (reached - shift) (reached - shift + row.search.w)
     pub within : i ≤ length sides
 
   pub searching_starts : (f : Frame) → f ≡ start_frame → Strip lows highs → Sides sides → Searching (record { frame = f; best = start }) 0
@@ -74,7 +55,7 @@ module _ (lows highs : List ℕ) (row : Row) (sides : List ℕ) (shift : ℕ) (s
         whole = refl;
         reached = 0;
         rises = r.rising;
-        behind = behind_start lows highs f (0 - shift) (0 - shift + row.w) s e;
+        behind = behind_start lows highs f (0 - shift) (0 - shift + row.search.w) s e;
         within = omega arith;
       }
 
@@ -87,20 +68,19 @@ module _ (lows highs : List ℕ) (row : Row) (sides : List ℕ) (shift : ℕ) (s
       unfolding Rising
       here = subst (Rising z.reached) (two_at sides i inside) z.rises
 
-      left : along lows highs row (positions_of shift row.last (get_or sides i 0 ∷ get_or sides (suc i) 0 ∷ drop (suc (suc i)) sides)) t.best
-          ≡ along lows highs row (positions_of shift row.last sides) start
+      left : along lows highs row (positions_of shift row.search.last (get_or sides i 0 ∷ get_or sides (suc i) 0 ∷ drop (suc (suc i)) sides)) t.best
+          ≡ along lows highs row (positions_of shift row.search.last sides) start
       left =
-          subst (λ (l : List ℕ). along lows highs row (positions_of shift row.last l) t.best ≡ along lows highs row (positions_of shift row.last sides) start)
+          subst (λ (l : List ℕ). along lows highs row (positions_of shift row.search.last l) t.best ≡ along lows highs row (positions_of shift row.search.last sides) start)
           (two_at sides i inside) z.whole
 
-      pub searching_may : Behind lows highs t.frame (get_or sides i 0 - shift) (get_or sides i 0 - shift + row.w)
+      pub searching_may : Behind lows highs t.frame (get_or sides i 0 - shift) (get_or sides i 0 - shift + row.search.w)
       searching_may =
-          behind_later lows highs t.frame (z.reached - shift) (z.reached - shift + row.w) (get_or sides i 0 - shift) (get_or sides i 0 - shift + row.w)
+          behind_later lows highs t.frame (z.reached - shift) (z.reached - shift + row.search.w) (get_or sides i 0 - shift) (get_or sides i 0 - shift + row.search.w)
           z.behind (omega (arith, here.0)) (omega (arith, here.0))
 
       pub searching_next : (r : Tried) → r ≡ tried_by lows highs row (get_or sides i 0) shift t → Searching r (i + 2)
-      unfolding folded
-      searching_next r e = rw (add-two, e) (go (is_reached shift row.last (get_or sides i 0)) refl)
+      searching_next r e = rw (add-two, e) (go (is_reached shift row.search.last (get_or sides i 0)) refl)
         where
           v : ℕ
           v = get_or sides i 0
@@ -108,13 +88,13 @@ module _ (lows highs : List ℕ) (row : Row) (sides : List ℕ) (shift : ℕ) (s
           rest : List ℕ
           rest = drop (suc (suc i)) sides
 
-          go : (b : Bool) → is_reached shift row.last (get_or sides i 0) ≡ b →
+          go : (b : Bool) → is_reached shift row.search.last (get_or sides i 0) ≡ b →
               Searching (elim b [ true ↦ tried_at lows highs row (get_or sides i 0 - shift) t.best | false ↦ t ]) (suc (suc i))
           go true k =
               record {
                 whole =
-                    subst (λ (l : List ℕ). along lows highs row l t.best ≡ along lows highs row (positions_of shift row.last sides) start)
-                    (positions_cons shift row.last v (get_or sides (suc i) 0) rest true k) left;
+                    subst (λ (l : List ℕ). along lows highs row l t.best ≡ along lows highs row (positions_of shift row.search.last sides) start)
+                    (positions_cons shift row.search.last v (get_or sides (suc i) 0) rest true k) left;
                 reached = v;
                 rises = here.1;
                 behind = tried_behind lows highs row (v - shift) (v - shift) t.best (tried_at lows highs row (v - shift) t.best) refl (omega arith);
@@ -123,56 +103,62 @@ module _ (lows highs : List ℕ) (row : Row) (sides : List ℕ) (shift : ℕ) (s
           go false k =
               record {
                 whole =
-                    subst (λ (l : List ℕ). along lows highs row l t.best ≡ along lows highs row (positions_of shift row.last sides) start)
-                    (positions_cons shift row.last v (get_or sides (suc i) 0) rest false k) left;
+                    subst (λ (l : List ℕ). along lows highs row l t.best ≡ along lows highs row (positions_of shift row.search.last sides) start)
+                    (positions_cons shift row.search.last v (get_or sides (suc i) 0) rest false k) left;
                 reached = v;
                 rises = here.1;
                 behind = searching_may;
                 within = inside;
               }
 
-    pub searching_ends : length sides ≤ i + 1 → t.best ≡ along lows highs row (positions_of shift row.last sides) start
-    unfolding folded
+    pub searching_ends : length sides ≤ i + 1 → t.best ≡ along lows highs row (positions_of shift row.search.last sides) start
     searching_ends h =
-        subst (λ (l : List ℕ). along lows highs row l t.best ≡ along lows highs row (positions_of shift row.last sides) start)
-        (short_positions shift row.last (drop i sides) (omega (arith, length-drop i sides))) z.whole
+        subst (λ (l : List ℕ). along lows highs row l t.best ≡ along lows highs row (positions_of shift row.search.last sides) start)
+        (short_positions shift row.search.last (drop i sides) (omega (arith, length-drop i sides))) z.whole
 
 -- ---- the ends, then the sides
 
+pub near_map : {A B : Type 0} (f : A → B) (s : Sense) (r low high : A) → r ≡ near_of s low high → f r ≡ near_of s (f low) (f high)
+near_map f Greatest r low high e = ap f e
+near_map f Least r low high e = ap f e
+
+pub far_map : {A B : Type 0} (f : A → B) (s : Sense) (r low high : A) → r ≡ far_of s low high → f r ≡ far_of s (f low) (f high)
+far_map f Greatest r low high e = ap f e
+far_map f Least r low high e = ap f e
+
 module _ (lows highs : List ℕ) (row : Row) (best : Spot) where
-  pub ends_tried : (first last : Tried) → first ≡ tried_at lows highs row 0 best → last ≡ tried_at lows highs row row.last first.best →
-      last.best ≡ along lows highs row (0 ∷ row.last ∷ []) best
-  unfolding folded
-  ends_tried first last e f = ap (λ (t : Tried). t.best) (f ∙ ap (λ (t : Tried). tried_at lows highs row row.last t.best) e)
-
   -- the sides that the sense asks for
-  pub sides_tried : (s : Sense) (ends first r : Spot) → row.sense ≡ s → ends ≡ along lows highs row (0 ∷ row.last ∷ []) best →
-      first ≡ along lows highs row (positions_of 0 row.last (near_of s lows highs)) ends → r ≡ along lows highs row (positions_of row.w row.last (far_of s lows highs)) first →
-      r ≡ along lows highs row (tried_in row.sense row.w row.last lows highs) best
-  sides_tried s ends first r k e f g =
-      g ∙ ap (along lows highs row far) (f ∙ ap (along lows highs row near) e)
-      ∙ sym (folded_append step near far (along lows highs row (0 ∷ row.last ∷ []) best))
-      ∙ sym (folded_append step (0 ∷ row.last ∷ []) (near ++ far) best)
-      ∙ ap (λ (s : Sense). along lows highs row (tried_in s row.w row.last lows highs) best) (sym k)
+  pub sides_tried : (near far : List ℕ) (ends first r : Spot) → near ≡ near_of row.search.sense lows highs → far ≡ far_of row.search.sense lows highs →
+      ends ≡ along lows highs row (0 ∷ row.search.last ∷ []) best → first ≡ along lows highs row (positions_of 0 row.search.last near) ends →
+      r ≡ along lows highs row (positions_of row.search.w row.search.last far) first →
+      r ≡ along lows highs row (tried_in row.search.sense row.search.w row.search.last lows highs) best
+  sides_tried near far ends first r n k e f g =
+      rw (← n, ← k) (g ∙ ap (along lows highs row right) (f ∙ ap (along lows highs row left) e)
+      ∙ sym (fold-append step (along lows highs row (0 ∷ row.search.last ∷ []) best) left right)
+      ∙ sym (fold-append step best (0 ∷ row.search.last ∷ []) (left ++ right)))
     where
-      step : ℕ → Spot → Spot
-      step x b = leading row.sense b (spot_at (strip_area lows highs row.w) x row.y)
+      step : Spot → ℕ → Spot
+      step b x = leading row.search.sense b (spot_at (strip_area lows highs row.search.w) x row.y)
 
-      near : List ℕ
-      near = positions_of 0 row.last (near_of s lows highs)
+      left : List ℕ
+      left = positions_of 0 row.search.last near
 
-      far : List ℕ
-      far = positions_of row.w row.last (far_of s lows highs)
+      right : List ℕ
+      right = positions_of row.search.w row.search.last far
 
 -- ---- the row by its strip
 
-pub row_by_strip : (t lows highs : List ℕ) (row : Row) (b r : Spot) → StripOf t row.y (row.y + row.w) lows highs →
-    r ≡ leading_in_row row.sense (strip_area lows highs row.w) (tried_in row.sense row.w row.last lows highs) row.y b →
-    r ≡ leading_in_row row.sense (window_area (rects_of t) row.w) (tried_row row.sense row.w row.last t row.y) row.y b
+fold_cong : (step other : Spot → ℕ → Spot) → ((b : Spot) (p : ℕ) → step b p ≡ other b p) → (l : List ℕ) (b : Spot) → fold step b l ≡ fold other b l
+fold_cong step other h l b = fold_along step other (λ b c. b ≡ c) (λ b c p e. h b p ∙ ap (λ (b : Spot). other b p) e) b b l refl
+
+pub row_by_strip : (t : List Rect) (lows highs : List ℕ) (row : Row) (b r : Spot) → StripOf t row.y (row.y + row.search.w) lows highs →
+    r ≡ leading_in_row row.search.sense (strip_area lows highs row.search.w) (tried_in row.search.sense row.search.w row.search.last lows highs) row.y b →
+    r ≡ leading_in_row row.search.sense (window_area t row.search.w) (tried_row row.search.sense row.search.w row.search.last t row.y) row.y b
 row_by_strip t lows highs row b r s e =
     e
-    ∙ folded_cong _ _ _ b
-    (λ x b. ap (λ (a : ℕ). leading row.sense b (record { area = a; x = x; y = row.y })) (s.areas x (x + row.w) (omega arith)))
+    ∙ fold_cong _ _
+    (λ b x. ap (λ (a : ℕ). leading row.search.sense b (record { area = a; x = x; y = row.y })) (s.areas x (x + row.search.w) (omega arith)))
+    (tried_in row.search.sense row.search.w row.search.last lows highs) b
     ∙ ap₂
-    (λ (l h : List ℕ). leading_in_row row.sense (window_area (rects_of t) row.w) (tried_in row.sense row.w row.last l h) row.y b)
+    (λ (l h : List ℕ). leading_in_row row.search.sense (window_area t row.search.w) (tried_in row.search.sense row.search.w row.search.last l h) row.y b)
     s.low s.high

@@ -1,6 +1,6 @@
 // The phases of a job by themselves, for the benchmark. Each gives one number of
 // the answer, so that no phase can be left out.
-#![tactic(auto)]
+#![tactic(auto, unfolding(run::specs::Answering::answer_for))]
 
 ghost use Rattle.std.specs.Prelude.{◌≡◌};
 ghost use Rattle.geometry.specs.Layout.{rects_of};
@@ -60,13 +60,14 @@ fn limit(sense: Sense, head: Head, rects: &[u64], order: &[usize], amounts: &[u6
     quick.last.limit
 }
 
+// A number for each verdict, as the C interface gives it.
 fn number_of(v: Verdict) -> u64
     ensures { result ≡ verdict_number v }
 {
     match v {
         Verdict::Safe => 0,
-        Verdict::Broken(_, _, _) => 1,
-        Verdict::Undecided(_, _, _) => 2,
+        Verdict::Broken(_) => 1,
+        Verdict::Undecided(_) => 2,
     }
 }
 
@@ -88,27 +89,20 @@ fn within(head: Head, rects: &[u64], amounts: &[u64]) -> u64
     tally.within
 }
 
+// The phases have the numbers of the C interface.
 fn ordered_phase(phase: u64, head: Head, rects: &[u64], order: &[usize], amounts: &[u64]) -> u64
     requires ready { Ready head rects.now amounts.now }
     requires swept { Swept rects.now order.now }
     ensures { result ≡ phase_number phase (answer_for head (rects_of rects.now) amounts.now) }
 {
-    if phase == 1 {
-        return greatest_area(head, rects, order, amounts);
+    match phase {
+        1 => greatest_area(head, rects, order, amounts),
+        2 => limit(Sense::Greatest, head, rects, order, amounts),
+        3 => limit(Sense::Least, head, rects, order, amounts),
+        4 => judged_number(head, rects, order, amounts),
+        5 => within(head, rects, amounts),
+        _ => 0,
     }
-    if phase == 2 {
-        return limit(Sense::Greatest, head, rects, order, amounts);
-    }
-    if phase == 3 {
-        return limit(Sense::Least, head, rects, order, amounts);
-    }
-    if phase == 4 {
-        return judged_number(head, rects, order, amounts);
-    }
-    if phase == 5 {
-        return within(head, rects, amounts);
-    }
-    0
 }
 
 // Sorting the sides counts with the other phases, and not with reading, which is
@@ -143,10 +137,8 @@ fn job_phase(phase: u64, job: Job) -> u64
 pub fn density_phase(file: &[u8], phase: u64) -> u64
     ensures { result ≡ phase_of phase (outcome_of unit_limits file.now) }
 {
-    let job = jobfile::read(file);
-    let fault = job.fault;
-    if fault != 0 {
-        return 0;
+    match jobfile::read(file) {
+        Ok(job) => job_phase(phase, job),
+        Err(_) => 0,
     }
-    job_phase(phase, job)
 }

@@ -2,7 +2,7 @@
 #![tactic(auto)]
 
 ghost use Rattle.std.specs.Prelude.{◌≡◌};
-ghost use Rattle.geometry.specs.Layout.{rects_of, Layer};
+ghost use Rattle.geometry.specs.Layout.{Layer};
 ghost use Rattle.sweep.specs.Strips.{Swept};
 ghost use Rattle.geometry.specs.Positions.{window_shapes};
 ghost use Rattle.run.specs.Answering.{counts_of, answer_for};
@@ -11,15 +11,15 @@ ghost use Rattle.run.specs.Ready.{SmallSpot, SmallSpots, Ready};
 use answers::{Answer, Counts};
 use extremes::Extremes;
 use forms::Head;
-use geometry::{Sense, Spot};
+use geometry::{Rect, Sense, Spot};
 use sweep::ORDER_ROOM;
 use zoom::{Asked, Quick};
 
 // The shapes under a named window of side w.
-fn shapes_at(rects: &[u64], w: u64, p: Spot) -> u64
+fn shapes_at(rects: &[Rect], w: u64, p: Spot) -> u64
     requires layer { Layer rects.now }
     requires small_spot { SmallSpot w p }
-    ensures { result ≡ window_shapes (rects_of rects.now) w p.x p.y }
+    ensures { result ≡ window_shapes rects.now w p.x p.y }
 {
     let cover = geometry::cover_of(rects, geometry::window_box(w, p.x, p.y));
     cover.shapes
@@ -27,10 +27,10 @@ fn shapes_at(rects: &[u64], w: u64, p: Spot) -> u64
 
 // The shapes under the windows that the runs name, counted once for each: no
 // search carries them along.
-fn counts_of(rects: &[u64], w: u64, exact: Extremes, greatest: Quick, least: Quick) -> Counts
+fn counts_of(rects: &[Rect], w: u64, exact: Extremes, greatest: Quick, least: Quick) -> Counts
     requires layer { Layer rects.now }
     requires small_spots { SmallSpots w exact greatest least }
-    ensures { result ≡ counts_of (rects_of rects.now) w exact greatest least }
+    ensures { result ≡ counts_of rects.now w exact greatest least }
 {
     let max = shapes_at(rects, w, exact.greatest);
     let min = shapes_at(rects, w, exact.least);
@@ -46,10 +46,10 @@ fn counts_of(rects: &[u64], w: u64, exact: Extremes, greatest: Quick, least: Qui
 
 // The answer to a job, by the order of its sides. The exact run's windows are
 // handed to the quick runs, so that nothing is searched twice.
-fn run_ordered(head: Head, rects: &[u64], order: &[usize], amounts: &[u64]) -> Answer
+fn run_ordered(head: Head, rects: &[Rect], order: &[usize], amounts: &[u64]) -> Answer
     requires ready { Ready head rects.now amounts.now }
     requires swept { Swept rects.now order.now }
-    ensures { result ≡ answer_for head (rects_of rects.now) amounts.now }
+    ensures { result ≡ answer_for head rects.now amounts.now }
 {
     let size = head.size;
     let window = head.window;
@@ -80,9 +80,9 @@ fn run_ordered(head: Head, rects: &[u64], order: &[usize], amounts: &[u64]) -> A
 }
 
 // The answer to a job. Its sides are sorted once, for all runs.
-pub fn run(head: Head, rects: &[u64], amounts: &[u64]) -> Answer
+pub fn run(head: Head, rects: &[Rect], amounts: &[u64]) -> Answer
     requires { Ready head rects.now amounts.now }
-    ensures { result ≡ answer_for head (rects_of rects.now) amounts.now }
+    ensures { result ≡ answer_for head rects.now amounts.now }
 {
     let mut order = [0usize; ORDER_ROOM];
     let count = sweep::order_sides(rects, &mut order);

@@ -11,14 +11,14 @@ use lib.ListN.{length, get_or, set, length-set}
 use lib.Seq.{get_or-set_same, get_or-set_other}
 use Rattle.laws.proofs.Tests.{le_or_lt, below_or_last}
 use Rattle.geometry.specs.declared.Rect.{Rect}
-use Rattle.geometry.specs.Sizes.{widest, largest}
+use Rattle.geometry.specs.Sizes.{widest}
 use Rattle.geometry.specs.Count.{box_sum}
-use Rattle.geometry.specs.Layout.{covered_area, rects_of}
+use Rattle.geometry.specs.Layout.{covered_area}
 use Rattle.geometry.proofs.Counting.{Inside, box_cong, box_le, box_const}
 use Rattle.geometry.proofs.Overlaps.{area_small}
 use Rattle.sweep.specs.declared.Frame.{Frame}
 use Rattle.sweep.specs.Strips.{strip_sum, StripOf}
-use Rattle.sweep.specs.Cursors.{frame_at, ColumnsInOrder}
+use Rattle.sweep.specs.Cursors.{frame_at}
 use Rattle.spacing.specs.declared.Keepout.{Keepout}
 use Rattle.tiles.specs.declared.Plan.{Plan}
 use Rattle.spacing.specs.Eligible.{tile, fillable_area}
@@ -65,9 +65,6 @@ filled_then f l m k from mid to s r p q =
     go i a u (inl h) = r.set i h u
     go i a u (inr h) = r.below i h ∙ s.set i a h
 
-pub rows_done : (f : ℕ → ℕ) (l m : List ℕ) (across j : ℕ) → Filled f l m 0 (j * across) → j ≤ across → across ≤ j → Filled f l m 0 (across * across)
-rows_done f l m across j s h k = filled_to f l m 0 (j * across) (across * across) s (ap (λ (i : ℕ). i * across) (omega arith))
-
 pub filled_as : (f g : ℕ → ℕ) (l m : List ℕ) (from to : ℕ) → Filled f l m from to → ((k : ℕ) → from ≤ k → k < to → f k ≡ g k) → Filled g l m from to
 filled_as f g l m from to s e = record { size = s.size; set = λ k a u. s.set k a u ∙ e k a u; below = s.below; rest = s.rest }
 
@@ -84,15 +81,12 @@ tile_fillable ks side i j = omega (arith, fillable_small ks (tile side i j), ap�
 
 -- ---- a row of tiles by its strip
 
-pub row_fits : (across side j : ℕ) → j < across → across * side ≤ widest → j * side + side ≤ widest
-row_fits across side j h k = omega (arith, mul-le-mul_right {m = suc j} {n = across} side h, suc-mul j side)
-
-module _ (rects amounts : List ℕ) (plan : Plan) (j : ℕ) (z : Tiled rects amounts plan) (row : j < plan.across) (lows highs : List ℕ)
+module _ (rects : List Rect) (amounts : List ℕ) (plan : Plan) (j : ℕ) (z : Tiled rects amounts plan) (row : j < plan.across) (lows highs : List ℕ)
     (lent : StripOf rects (j * plan.side) (j * plan.side + plan.side) lows highs) where
-  tile_area : (i : ℕ) → strip_sum lows highs (i * plan.side) (suc i * plan.side) ≡ covered_area (rects_of rects) (tile plan.side i j)
+  tile_area : (i : ℕ) → strip_sum lows highs (i * plan.side) (suc i * plan.side) ≡ covered_area rects (tile plan.side i j)
   tile_area i =
       lent.areas (i * plan.side) (suc i * plan.side) (omega (arith, suc-mul i plan.side))
-      ∙ ap (λ (y : ℕ). covered_area (rects_of rects) (record { x1 = i * plan.side; y1 = j * plan.side; x2 = suc i * plan.side; y2 = y }))
+      ∙ ap (λ (y : ℕ). covered_area rects (record { x1 = i * plan.side; y1 = j * plan.side; x2 = suc i * plan.side; y2 = y }))
       (omega (arith, suc-mul j plan.side))
 
   side_small : plan.side ≤ widest
@@ -105,14 +99,14 @@ module _ (rects amounts : List ℕ) (plan : Plan) (j : ℕ) (z : Tiled rects amo
         row = row;
         table = z.table;
         light = λ i h.
-            omega (arith, tile_area i, tile_small (rects_of rects) plan.side i j, z.room (j * plan.across + i), mul-le-mul side_small side_small);
+            omega (arith, tile_area i, tile_small rects plan.side i j, z.room (j * plan.across + i), mul-le-mul side_small side_small);
         layout = z.layout;
       }
 
-  pub row_loads : (t : ℕ) → j * plan.across ≤ t → t < suc j * plan.across → load_along lows highs amounts plan j t ≡ load_of (rects_of rects) amounts plan t
+  pub row_loads : (t : ℕ) → j * plan.across ≤ t → t < suc j * plan.across → load_along lows highs amounts plan j t ≡ load_of rects amounts plan t
   row_loads t h k =
       ap₂ ◌+◌ (tile_area i) (ap (λ (p : ℕ). get_or amounts p 0) here)
-      ∙ sym (ap₂ (load (rects_of rects) amounts plan) (ap (λ (p : ℕ). p % plan.across) here ∙ digits_mod j {m = plan.across} {r = i} inside)
+      ∙ sym (ap₂ (load rects amounts plan) (ap (λ (p : ℕ). p % plan.across) here ∙ digits_mod j {m = plan.across} {r = i} inside)
       (ap (λ (p : ℕ). p / plan.across) here ∙ digits_div j {m = plan.across} {r = i} inside))
     where
       i : ℕ
@@ -131,24 +125,12 @@ pub tile_end : (side i : ℕ) → i * side ≤ (i + 1) * side
 tile_end side i = mul-le-mul_right side (omega arith)
 
 module _ (lows highs amounts : List ℕ) (plan : Plan) (j i : ℕ) (z : RowTiled lows highs amounts plan j) (h : i < plan.across) where
-  pub tile_right : (i + 1) * plan.side ≤ widest
-  tile_right = omega (arith, z.layout, mul-le-mul_right {m = i + 1} {n = plan.across} plan.side (omega arith))
-
-  pub tile_upright : ColumnsInOrder (i * plan.side) ((i + 1) * plan.side)
-  tile_upright = record { order = tile_end plan.side i; small = tile_right }
-
   pub place_inside : j * plan.across + i < plan.across * plan.across
   place_inside = place_within plan.across i j (plan.across * plan.across) h z.row (omega arith)
-
-  pub place_small : j * plan.across + i < tiles_room
-  place_small = omega (arith, place_inside, mul-le-mul z.few z.few)
 
   module _ (f : Frame) (e : f ≡ frame_at lows highs (i * plan.side) ((i + 1) * plan.side)) where
     area_is : f.area ≡ strip_sum lows highs (i * plan.side) (suc i * plan.side)
     area_is = ap (λ (f : Frame). f.area) e ∙ ap (λ (k : ℕ). strip_sum lows highs (i * plan.side) (k * plan.side)) (add-one i)
-
-    pub load_fits : f.area + get_or amounts (j * plan.across + i) 0 ≤ 2 * largest
-    load_fits = omega (arith, area_is, z.light i h)
 
     pub load_formed : f.area + get_or amounts (j * plan.across + i) 0 ≡ load_along lows highs amounts plan j (j * plan.across + i)
     load_formed =
@@ -160,13 +142,13 @@ module _ (lows highs amounts : List ℕ) (plan : Plan) (j i : ℕ) (z : RowTiled
 
 -- ---- the filled table
 
-module _ (rects amounts : List ℕ) (plan : Plan) (before table : List ℕ)
-    (s : Filled (load_of (rects_of rects) amounts plan) before table 0 (plan.across * plan.across)) where
+module _ (rects : List Rect) (amounts : List ℕ) (plan : Plan) (before table : List ℕ)
+    (s : Filled (load_of rects amounts plan) before table 0 (plan.across * plan.across)) where
   abbrev across : ℕ
   across = plan.across
 
   abbrev loads : ℕ → ℕ → ℕ
-  loads = load (rects_of rects) amounts plan
+  loads = load rects amounts plan
 
   table_load : (i j : ℕ) → i < across → j < across → number_at table across i j ≡ loads i j
   table_load i j h k =
@@ -187,12 +169,12 @@ module _ (rects amounts : List ℕ) (plan : Plan) (before table : List ℕ)
       }
     where
       small : (x y : ℕ) → Inside (tiles_before across across) x y → number_at table across x y ≤ 2 * (plan.side * plan.side)
-      small x y i = omega (arith, table_load x y i.right i.high, tile_small (rects_of rects) plan.side x y, t.room (y * across + x))
+      small x y i = omega (arith, table_load x y i.right i.high, tile_small rects plan.side x y, t.room (y * across + x))
 
   pub box_load : (b : TileBox) → TilesInLayout across b → box_sum b (number_at table across) ≡ box_sum b loads
   box_load b h = box_cong b (number_at table across) loads (λ x y i. table_load x y (omega arith) (omega arith))
 
 -- ---- 64 bits
 
-pub tiles_few : (across : ℕ) → across ≤ most_across → across * across ≤ tiles_room
-tiles_few across h = mul-le-mul h h
+pub tiles_few : (n : ℕ) → n ≤ most_across → n * n ≤ tiles_room
+tiles_few n h = mul-le-mul h h

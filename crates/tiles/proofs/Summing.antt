@@ -1,6 +1,6 @@
 -- Corner sums: how a table of loads becomes one of corner sums, and that four of them give the load of a box of tiles, all within 64 bits.
 use Prim.Native.Nat.{ℕ, zero, suc, ◌+◌, ◌-◌, ◌*◌, ◌≤◌, ◌<◌}
-use mathlib.Core.Path.{◌≡◌, refl, sym, ap, ap₂, ◌∙◌, subst}
+use mathlib.Core.Path.{◌≡◌, refl, sym, ap, ap₂, ◌∙◌}
 use mathlib.Core.List.{List}
 use mathlib.Core.Logic.{◌⊎◌, inl, inr}
 use native.Mathlib.Nat.{add-zero, add_assoc, suc-mul}
@@ -10,32 +10,20 @@ use lib.Arith.{digits_lt}
 use lib.ListN.{length, get_or, set}
 use Rattle.laws.proofs.Tests.{below_or_last}
 use Rattle.geometry.specs.Count.{sum, span, box_sum}
-use Rattle.geometry.proofs.Counting.{sum_zero, span_cong, span_split, span_one, span_empty, box_within, box_cut_rows, box_cut_columns}
+use Rattle.geometry.proofs.Counting.{sum_zero, span_cong, span_split, span_one, span_empty, box_cong, box_within, box_cut_rows, box_cut_columns}
 use Rattle.tiles.specs.Sizes.{heaviest}
 use Rattle.tiles.specs.Tiles.{TileBox, number_at}
-use Rattle.tiles.specs.Sums.{tiles_before, TileTable, Loads, TilesInLayout, Filled, corner_of, corner_total, corner_in, corner_along, LoadRow, Summed, CornerSums}
+use Rattle.tiles.specs.Sums.{tiles_before, TileTable, Loads, TilesInLayout, Filled, corner_of, corner_total, corner_in, corner_along, LoadRow, Summed, CornersOf, CornerSums}
 use Rattle.tiles.proofs.Loads.{place_within, filled_start, filled_next, filled_to}
 
 pub same_tiles : (l m : List ℕ) (across : ℕ) → TileTable l across → length m ≡ length l → TileTable m across
 same_tiles l m across t e = record { few = t.few; full = omega (arith, t.full) }
 
--- ---- one corner
-
-pub corner_none : (sums : List ℕ) (across x y : ℕ) → y ≡ 0 → 0 ≡ corner_of sums across x y
-corner_none sums across zero y e = refl
-corner_none sums across (suc x) zero e = refl
-corner_none sums across (suc x) (suc y) e = absurd (omega arith)
-
-pub corner_some : (sums : List ℕ) (across x y : ℕ) → 1 ≤ x → 1 ≤ y → number_at sums across (x - 1) (y - 1) ≡ corner_of sums across x y
-corner_some sums across zero y h k = absurd (omega arith)
-corner_some sums across (suc x) zero h k = absurd (omega arith)
-corner_some sums across (suc x) (suc y) h k = ap₂ (number_at sums across) (omega arith) (omega arith)
-
 -- ---- the load of a box by four corners
 
-module _ (sums : List ℕ) (across : ℕ) (b : TileBox) (s : CornerSums sums across) (h : TilesInLayout across b) where
+module _ {load : ℕ → ℕ → ℕ} {sums : List ℕ} {across : ℕ} {b : TileBox} (s : CornersOf load sums across) (h : TilesInLayout across b) where
   four_corners : corner_of sums across b.x2 b.y2 + corner_of sums across b.x1 b.y1
-      ≡ corner_of sums across b.x1 b.y2 + corner_of sums across b.x2 b.y1 + box_sum b s.load
+      ≡ corner_of sums across b.x1 b.y2 + corner_of sums across b.x2 b.y1 + box_sum b load
   four_corners =
       omega (
         arith,
@@ -43,9 +31,9 @@ module _ (sums : List ℕ) (across : ℕ) (b : TileBox) (s : CornerSums sums acr
         s.corners b.x1 b.y1 (omega arith) (omega arith),
         s.corners b.x1 b.y2 (omega arith) h.high,
         s.corners b.x2 b.y1 h.right (omega arith),
-        box_cut_rows 0 0 b.x2 b.y2 b.y1 s.load (omega arith) h.rows,
-        box_cut_columns 0 b.y1 b.x2 b.y2 b.x1 s.load (omega arith) h.columns,
-        box_cut_rows 0 0 b.x1 b.y2 b.y1 s.load (omega arith) h.rows,
+        box_cut_rows 0 0 b.x2 b.y2 b.y1 load (omega arith) h.rows,
+        box_cut_columns 0 b.y1 b.x2 b.y2 b.x1 load (omega arith) h.columns,
+        box_cut_rows 0 0 b.x1 b.y2 b.y1 load (omega arith) h.rows,
       )
 
   -- the two that are added fit 64 bits, and those taken away hold no more
@@ -54,18 +42,40 @@ module _ (sums : List ℕ) (across : ℕ) (b : TileBox) (s : CornerSums sums acr
     where
       light : (x y : ℕ) → x ≤ across → y ≤ across → corner_of sums across x y ≤ heaviest
       light x y p q =
-          omega (arith, s.corners x y p q, s.light, box_within (tiles_before x y) (tiles_before across across) s.load (omega arith) (omega arith) p q)
+          omega (arith, s.corners x y p q, s.light, box_within (tiles_before x y) (tiles_before across across) load (omega arith) (omega arith) p q)
 
   pub near_less : corner_of sums across b.x1 b.y2 + corner_of sums across b.x2 b.y1
       ≤ corner_of sums across b.x2 b.y2 + corner_of sums across b.x1 b.y1
   near_less = omega (arith, four_corners)
 
-  pub corner_total_lem : corner_total sums across b ≡ box_sum b s.load
+  pub corner_total_lem : corner_total sums across b ≡ box_sum b load
   corner_total_lem = omega (arith, four_corners)
 
-  pub load_light : (v : ℕ) → v ≡ corner_total sums across b → v ≤ heaviest
-  load_light v e =
-      omega (arith, corner_total_lem, s.light, box_within b (tiles_before across across) s.load (omega arith) (omega arith) h.right h.high)
+  pub load_light : {v : ℕ} → v ≡ corner_total sums across b → v ≤ heaviest
+  load_light e =
+      omega (arith, corner_total_lem, s.light, box_within b (tiles_before across across) load (omega arith) (omega arith) h.right h.high)
+
+-- corners give the loads that they are of
+pub corner_sums : {load : ℕ → ℕ → ℕ} {sums : List ℕ} {across : ℕ} → CornersOf load sums across → CornerSums sums across
+corner_sums {load = load} {sums = sums} {across = across} s =
+    record {
+      tiles = s.tiles;
+      light = omega (arith, s.light, same across across (omega arith) (omega arith));
+      corners = λ x y h k. s.corners x y h k ∙ same x y h k;
+    }
+  where
+    given : ℕ → ℕ → ℕ
+    given i j = corner_total sums across (record { x1 = i; y1 = j; x2 = suc i; y2 = suc j })
+
+    one : (i j : ℕ) → i < across → j < across → load i j ≡ given i j
+    one i j h k =
+        sym
+        (corner_total_lem s (record { columns = omega arith; rows = omega arith; right = h; high = k })
+        ∙ span_one j (λ y. span i (suc i) (λ x. load x y))
+        ∙ span_one i (λ x. load x j))
+
+    same : (x y : ℕ) → x ≤ across → y ≤ across → box_sum (tiles_before x y) load ≡ box_sum (tiles_before x y) given
+    same x y h k = box_cong (tiles_before x y) load given (λ i j b. one i j (omega (arith, b.right)) (omega (arith, b.high)))
 
 -- ---- a row of loads
 
@@ -78,28 +88,20 @@ corner_kept l m across (suc x) (suc y) j e h k = e (y * across + x) (digits_lt {
 
 -- row j of the table l is summed before column i: `run` is the load of its tiles there, and the table m holds their corner sums
 pub record RowSummed (l m : List ℕ) (across j run i : ℕ) : Type 0 where
-  pub within : i ≤ across
   pub so_far : run ≡ span 0 i (λ x. number_at l across x j)
   pub filled : Filled (corner_along l across j) l m (j * across) (j * across + i)
 
 pub row_start : (l : List ℕ) (across j : ℕ) → RowSummed l l across j 0 0
 row_start l across j =
     record {
-      within = omega arith;
       so_far = sym (span_empty 0 0 (λ x. number_at l across x j) (omega arith));
       filled = filled_to _ _ _ _ _ _ (filled_start _ _ _) (sym (add-zero (j * across)));
     }
 
 module _ {l m : List ℕ} {across j run i : ℕ} (s : RowSummed l m across j run i) where
-  pub row_end : across ≤ i → Filled (corner_along l across j) l m (j * across) (suc j * across)
-  row_end h = filled_to _ _ _ _ _ _ s.filled (omega (arith, suc-mul j across))
-
   module _ (w : LoadRow l across j) (h : i < across) where
-    pub tile_place : j * across + i < length m
+    tile_place : j * across + i < length m
     tile_place = omega (arith, place_within across i j (length l) h w.row w.tiles.full, s.filled.size)
-
-    pub still_tiles : TileTable m across
-    still_tiles = same_tiles l m across w.tiles s.filled.size
 
     run_next : run + get_or m (j * across + i) 0 ≡ span 0 (i + 1) (λ x. number_at l across x j)
     run_next =
@@ -124,7 +126,6 @@ module _ {l m : List ℕ} {across j run i : ℕ} (s : RowSummed l m across j run
       pub row_next : RowSummed l (set m (j * across + i) (run + get_or m (j * across + i) 0 + v)) across j (run + get_or m (j * across + i) 0) (i + 1)
       row_next =
           record {
-            within = omega arith;
             so_far = run_next;
             filled = filled_to _ _ _ _ _ _
                 (filled_next _ _ _ _ _ _ s.filled (omega arith) tile_place (sum_is ∙ ap (corner_in l across j) column)) (add_assoc (j * across) i 1);
@@ -195,6 +196,3 @@ module _ (l m : List ℕ) (across j : ℕ) (s : Summed l m across j) (h : j < ac
       go : (x y : ℕ) → x ≤ across → (y < suc j) ⊎ (y ≡ suc j) → corner_of n across x y ≡ box_sum (tiles_before x y) (number_at l across)
       go x y p (inl q) = corner_kept m n across x y j r.below p (omega arith) ∙ s.corners x y p (omega arith)
       go x y p (inr q) = rw q (last x p)
-
-pub summed_end : (l m : List ℕ) (across j : ℕ) → Summed l m across j → j ≤ across → across ≤ j → Summed l m across across
-summed_end l m across j s h k = subst (Summed l m across) (omega arith) s

@@ -2,6 +2,7 @@
 -- public functions names it, and every accepted job has it.
 use Rattle.std.specs.Prelude.{ℕ, suc, ◌+◌, ◌*◌, ◌≤◌, ◌<◌, ◌≡◌, List, length, get_or}
 use Rattle.geometry.specs.Sizes.{widest, largest}
+use Rattle.geometry.specs.declared.Rect.{Rect}
 use Rattle.geometry.specs.Layout.{Layer}
 use Rattle.sweep.specs.Strips.{strip_sum}
 use Rattle.tiles.specs.declared.Plan.{Plan}
@@ -18,7 +19,7 @@ abbrev pub heaviest : ℕ
 heaviest = 1125899906842624
 
 -- a layout whose loads are formed: its rectangles, and an amount for each of its tiles, at most `most_across` across
-pub record Tiled (rects amounts : List ℕ) (plan : Plan) : Type 0 where
+pub record Tiled (rects : List Rect) (amounts : List ℕ) (plan : Plan) : Type 0 where
   pub layer : Layer rects
   pub few : plan.across ≤ most_across
   pub table : length amounts ≡ plan.across * plan.across

@@ -80,9 +80,12 @@ pub record Summed (loads table : List ℕ) (across j : ℕ) : Type 0 where
   pub corners : (x y : ℕ) → x ≤ across → y ≤ j → corner_of table across x y ≡ box_sum (tiles_before x y) (number_at loads across)
   pub rest : (k : ℕ) → j * across ≤ k → get_or table k 0 ≡ get_or loads k 0
 
--- a table of corner sums, of some loads: 10,000 times the load of all tiles fits 64 bits
-pub record CornerSums (sums : List ℕ) (across : ℕ) : Type 0 where
-  pub load : ℕ → ℕ → ℕ
+-- a table of the corner sums of loads: 10,000 times the load of all tiles fits 64 bits
+pub record CornersOf (load : ℕ → ℕ → ℕ) (sums : List ℕ) (across : ℕ) : Type 0 where
   pub tiles : TileTable sums across
   pub light : box_sum (tiles_before across across) load ≤ heaviest
   pub corners : (x y : ℕ) → x ≤ across → y ≤ across → corner_of sums across x y ≡ box_sum (tiles_before x y) load
+
+-- a table of corner sums, of the loads that its corners give
+abbrev pub CornerSums : List ℕ → (across : ℕ) → Type 0
+CornerSums sums across = CornersOf (λ i j. corner_total sums across (record { x1 = i; y1 = j; x2 = suc i; y2 = suc j })) sums across

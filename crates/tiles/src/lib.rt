@@ -4,7 +4,7 @@
 mod corners;
 mod tiling;
 
-pub use corners::{sum_rows, tiles_load};
+pub use corners::{Corners, sum_rows};
 pub use tiling::set_loads;
 
 // How many tiles may lie across a layout, and the numbers of a table with one for

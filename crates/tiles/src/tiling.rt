@@ -1,11 +1,11 @@
 // The loads of all tiles, one row of tiles at a time.
 ghost use Rattle.std.specs.Prelude.{suc, ◌*◌, ◌≤◌, length};
-ghost use Rattle.geometry.specs.Layout.{rects_of};
 ghost use Rattle.sweep.specs.Strips.{Strip, Swept};
 ghost use Rattle.tiles.specs.Sizes.{Tiled, RowTiled};
 ghost use Rattle.tiles.specs.Sums.{load_of, load_along, Filled};
 
 use crate::Plan;
+use geometry::Rect;
 use sweep::STRIP_ROOM;
 
 // Writes the loads of the tiles of row j, by its strip.
@@ -18,25 +18,22 @@ fn set_row(lows: &[u64], highs: &[u64], amounts: &[u64], plan: Plan, j: u64, out
     let side = plan.side;
     let first = j * plan.across;
     let mut frame = sweep::start_frame();
-    let mut i: u64 = 0;
-    while i < plan.across {
+    for i in 0..plan.across {
         frame = sweep::move_to(lows, highs, frame, i * side, (i + 1) * side);
         let t = (first + i) as usize;
         out[t] = frame.area + amounts[t];
-        i += 1;
     }
 }
 
 // Writes the load of each tile at the front of a table, row by row.
-pub fn set_loads(rects: &[u64], order: &[usize], amounts: &[u64], plan: Plan, out: &mut [u64])
+pub fn set_loads(rects: &[Rect], order: &[usize], amounts: &[u64], plan: Plan, out: &mut [u64])
     requires tiled { Tiled rects.now amounts.now plan }
     requires swept { Swept rects.now order.now }
     requires across_in_bounds { plan.across * plan.across ≤ length out.old }
-    ensures { Filled (load_of (rects_of rects.now) amounts.now plan) out.old out.new 0 (plan.across * plan.across) }
+    ensures { Filled (load_of rects.now amounts.now plan) out.old out.new 0 (plan.across * plan.across) }
 {
     let mut sides = [0u64; STRIP_ROOM];
-    let mut j: u64 = 0;
-    while j < plan.across {
+    for j in 0..plan.across {
         let y1 = j * plan.side;
         let y2 = y1 + plan.side;
         let lengths = sweep::strip(rects, order, y1, y2, &mut sides);
@@ -44,6 +41,5 @@ pub fn set_loads(rects: &[u64], order: &[usize], amounts: &[u64], plan: Plan, ou
         let both = lengths.both;
         let strip = &sides[..];
         set_row(&strip[..low], &strip[low..both], amounts, plan, j, out);
-        j += 1;
     }
 }

