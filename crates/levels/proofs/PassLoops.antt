@@ -39,8 +39,8 @@ row_seen_cong look f g t y at (suc k) z h =
 
 -- ---- what the laws of a pass give of a row and of all rows
 
-module _ {S : Type 0} {reach : ℕ → ℕ} {best counted : S → ℕ} {Able : Sense → S → Type 0} {looked : Sense → S × List Bool → ℕ → Spot → S × List Bool}
-    (laws : PassLaws reach best counted Able looked) (s : Sense) (f : ℕ → ℕ → ℕ) (t : ℕ) where
+module _ {S : Type 0} {best counted : S → ℕ} {Able : Sense → S → Type 0} {looked : Sense → S × List Bool → ℕ → Spot → S × List Bool}
+    (laws : PassLaws best counted Able looked) (s : Sense) (f : ℕ → ℕ → ℕ) (t : ℕ) where
   row_no_worse : (y at k : ℕ) (z : S × List Bool) → NoBetter s (best z.0) (best (row_seen (looked s) f t y at k z).0)
   unfolding row_seen
   row_no_worse y at zero z = better_self s (best z.0)

@@ -18,10 +18,6 @@ to_grows : (s : Sense) (n w u a b : ℕ) → a ≤ b → span_to s n w u a ≤ s
 to_grows Greatest n w u a b h = omega arith
 to_grows Least n w u a b h = omega arith
 
-pub span_upright : (s : Sense) (n w u x : ℕ) → u ≤ w → x + w ≤ n → span_from s u x ≤ span_to s n w u x
-span_upright Greatest n w u x h k = omega arith
-span_upright Least n w u x h k = omega arith
-
 -- ---- the box
 
 module _ (g : Grid) (u i : ℕ) where

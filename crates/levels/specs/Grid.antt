@@ -2,7 +2,6 @@
 use Rattle.std.specs.Prelude.{ℕ, ◌*◌, ◌≤◌, ◌<◌, ◌≡◌, List}
 use Rattle.geometry.specs.declared.Rect.{Rect}
 use Rattle.geometry.specs.declared.Spot.{Spot}
-use Rattle.geometry.specs.Layout.{rects_of}
 use Rattle.geometry.specs.Extreme.{spot_at}
 use Rattle.geometry.specs.Positions.{window_area}
 use Rattle.levels.specs.declared.Grid.{Grid}
@@ -26,8 +25,8 @@ pub record Sized (g : Grid) : Type 0 where
   pub few_above : g.stride ≤ starts_room
 
 -- the far area of the window at a position of the level
-abbrev pub far_on : Grid → (rects : List ℕ) → (x y : ℕ) → ℕ
-far_on g rects = far_area g.sense (rects_of rects) g.size g.window g.step
+abbrev pub far_on : Grid → (rects : List Rect) → (x y : ℕ) → ℕ
+far_on g rects = far_area g.sense rects g.size g.window g.step
 
 -- a window at a start, with its area
 pub record AtStart (rs : List Rect) (n w t : ℕ) (b : Spot) : Type 0 where

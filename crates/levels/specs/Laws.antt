@@ -30,19 +30,17 @@ replaced_stays s b c = go (better s c.area b.area) refl
     go true e = rw (step_better s b c e) (better_not s c.area b.area e)
     go false e = rw (step_skip s b c e) (better_self s b.area)
 
-pub named_laws : PassLaws {S = Spot} (λ t. 0) (λ b. b.area) (λ b. 0) (λ s b. Unit {0}) named_at
+pub named_laws : PassLaws {S = Spot} (λ b. b.area) (λ b. 0) (λ s b. Unit {0}) named_at
 named_laws =
     record {
-      within = λ t. omega arith;
       no_worse = λ s z at p. replaced_stays s z.0 p;
       counts = λ s z at p. omega arith;
       able = λ s z at p h. tt;
     }
 
-pub weighed_laws : PassLaws {S = Level} (λ t. t) (λ v. v.named.area) (λ v. v.kept) Stands weighed_at
+pub weighed_laws : PassLaws {S = Level} (λ v. v.named.area) (λ v. v.kept) Stands weighed_at
 weighed_laws =
     record {
-      within = λ t. omega arith;
       no_worse = λ s z at p. better_self s z.0.named.area;
       counts = λ s z at p. omega (arith, one_if_small (better s p.area z.0.named.area));
       able = λ s z at p h. no_better_trans s z.0.named.area z.0.limit (better_area s z.0.limit p.area) h (area_stays s z.0.limit p.area);

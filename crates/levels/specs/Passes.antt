@@ -1,15 +1,14 @@
 -- A pass over the starts of a level, with what it carries along, `S`, and the table of flags. A buyer need not read it: no contract of the unit's public
 -- functions names it.
 use Rattle.std.specs.Prelude.{ℕ, zero, suc, ◌+◌, ◌*◌, ◌≤◌, ◌<◌, Bool, List, set}
+use Rattle.geometry.specs.declared.Rect.{Rect}
 use Rattle.geometry.specs.declared.Spot.{Spot}
 use Rattle.geometry.specs.declared.Sense.{Sense}
 use Rattle.geometry.specs.Extreme.{spot_at, replaced, NoBetter}
-use Rattle.sweep.specs.Strips.{Strip}
 use Rattle.levels.specs.declared.Grid.{Grid}
 use Rattle.levels.specs.declared.Level.{Level}
 use Rattle.levels.specs.Grid.{Sized}
-use Rattle.levels.specs.Spans.{along_strip}
-use Rattle.levels.specs.Passing.{flag_of, Spares}
+use Rattle.levels.specs.Passing.{flag_of, HarmlessRow}
 use Rattle.levels.specs.Weighing.{weighed}
 
 -- what one more start does in the first pass, to the window named so far, and in the second, to the level; the number is the place of its flag
@@ -29,17 +28,14 @@ unfoldable pub rows_seen : {S : Type 0} → (S → ℕ → Spot → S) → (ℕ 
 rows_seen look f t k zero z = z
 rows_seen look f t k (suc m) z = row_seen look f t (m * t) (m * k) k (rows_seen look f t k m z)
 
--- the laws of a pass: it bloats or shrinks its windows by the step at most, the area that stands never gets worse, each start counts once at most, and
--- each leaves what the next asks
-pub record PassLaws {S : Type 0} (reach : ℕ → ℕ) (best counted : S → ℕ) (Able : Sense → S → Type 0) (look : Sense → S × List Bool → ℕ → Spot → S × List Bool) : Type 0 where
-  pub within : (t : ℕ) → reach t ≤ t
+-- the laws of a pass: the area that stands never gets worse, each start counts once at most, and each leaves what the next asks
+pub record PassLaws {S : Type 0} (best counted : S → ℕ) (Able : Sense → S → Type 0) (look : Sense → S × List Bool → ℕ → Spot → S × List Bool) : Type 0 where
   pub no_worse : (s : Sense) (z : S × List Bool) (at : ℕ) (p : Spot) → NoBetter s (best z.0) (best (look s z at p).0)
   pub counts : (s : Sense) (z : S × List Bool) (at : ℕ) (p : Spot) → counted (look s z at p).0 ≤ suc (counted z.0)
   pub able : (s : Sense) (z : S × List Bool) (at : ℕ) (p : Spot) → Able s z.0 → Able s (look s z at p).0
 
--- what a pass over row j asks, where its strip is at hand, its windows are bloated or shrunk by u and `best` is the area that stands
-pub record StripPassable (lows highs : List ℕ) (flags : List Bool) (g : Grid) (u j best : ℕ) : Type 0 where
-  pub strip : Strip lows highs
+-- what a pass over row j asks, where `best` is the area that stands
+pub record RowPassable (rects : List Rect) (flags : List Bool) (g : Grid) (j best : ℕ) : Type 0 where
   pub sized : Sized g
   pub within : j < g.starts
-  pub spare : Spares g.sense (λ x. along_strip lows highs g u x (j * g.step)) g.step g.starts flags g.stride j best
+  pub spare : HarmlessRow g.sense rects g.size g.window g.step flags g.stride j best

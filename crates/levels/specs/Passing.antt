@@ -4,8 +4,6 @@ use Rattle.std.specs.Prelude.{ℕ, zero, suc, ◌+◌, ◌*◌, ◌/◌, ◌<◌
 use Rattle.geometry.specs.declared.Rect.{Rect}
 use Rattle.geometry.specs.declared.Sense.{Sense}
 use Rattle.geometry.specs.Extreme.{better, NoBetter}
-use Rattle.geometry.specs.Layout.{rects_of}
-use Rattle.sweep.specs.Strips.{Swept}
 use Rattle.levels.specs.declared.Grid.{Grid}
 use Rattle.levels.specs.Levels.{starts_on, far_area}
 use Rattle.levels.specs.Grid.{Sized}
@@ -40,7 +38,6 @@ abbrev pub Harmless : Sense → List Rect → (n w t : ℕ) → List Bool → (s
 Harmless s rs n w t flags stride best = (j : ℕ) → j < starts_on n w t → HarmlessRow s rs n w t flags stride j best
 
 -- what a pass over all rows asks, where `best` is the area that stands
-pub record Passable (rects order : List ℕ) (flags : List Bool) (g : Grid) (best : ℕ) : Type 0 where
-  pub swept : Swept rects order
+pub record Passable (rects : List Rect) (flags : List Bool) (g : Grid) (best : ℕ) : Type 0 where
   pub sized : Sized g
-  pub spare : Harmless g.sense (rects_of rects) g.size g.window g.step flags g.stride best
+  pub spare : Harmless g.sense rects g.size g.window g.step flags g.stride best

@@ -7,13 +7,13 @@ mod passes;
 mod spans;
 
 ghost use Rattle.std.specs.Prelude.{◌≡◌};
-ghost use Rattle.geometry.specs.Layout.{rects_of};
 ghost use Rattle.levels.specs.Levels.{starts_on, level_of};
 ghost use Rattle.levels.specs.Grid.{Countable, AtStart, far_on};
 ghost use Rattle.levels.specs.Passing.{Passable, flags_in_rows};
 
 pub use flags::flag_count;
 use geometry::{Sense, Spot};
+use sweep::Sorted;
 
 // The flags of a level, one to a start, fit up to 505 starts on an axis, which the
 // largest legal job has at level 3, the last whose flags are read. Where there
@@ -58,23 +58,22 @@ pub fn starts_on(size: u64, window: u64, step: u64) -> u64
 // over the far ones, bloated or shrunk, which give its limit, the starts kept and
 // the flags for the next level.
 pub fn search_level(
-    rects: &[u64],
-    order: &[usize],
+    sorted: &Sorted<'_>,
     flags: &[bool],
     new: &mut [bool],
     g: Grid,
     before: Spot,
 ) -> Level
-    requires passable { Passable rects.now order.now flags.now g before.area }
-    requires at_start { AtStart (rects_of rects.now) g.size g.window g.step before }
-    ensures value { result ≡ level_of g.sense (rects_of rects.now) g.size g.window g.step before }
-    ensures after { new.new ≡ flags_in_rows g.sense result.named.area (far_on g rects.now) g.step (starts_on g.size g.window g.step) (starts_on g.size g.window g.step) new.old }
+    requires passable { Passable sorted.now.rects.now flags.now g before.area }
+    requires at_start { AtStart sorted.now.rects.now g.size g.window g.step before }
+    ensures value { result ≡ level_of g.sense sorted.now.rects.now g.size g.window g.step before }
+    ensures after { new.new ≡ flags_in_rows g.sense result.named.area (far_on g sorted.now.rects.now) g.step (starts_on g.size g.window g.step) (starts_on g.size g.window g.step) new.old }
 {
-    let named = passes::rows(rects, order, flags, new, g, before);
+    let named = passes::rows(sorted, flags, new, g, before);
     let start = Level {
         named,
         limit: named.area,
         kept: 0,
     };
-    passes::rows(rects, order, flags, new, g, start)
+    passes::rows(sorted, flags, new, g, start)
 }

@@ -1,26 +1,23 @@
 // A pass over the starts of a level that are not passed over. A level has two,
 // since its window must be known before a start is kept or flagged; both move
 // along the rows in the same way.
-ghost use Rattle.std.specs.Prelude.{ℕ, ◌+◌, ◌*◌, ◌≤◌, ◌≡◌, List, Bool, length};
+ghost use Rattle.std.specs.Prelude.{ℕ, ◌*◌, ◌≤◌, ◌≡◌, List, Bool};
 ghost use Rattle.geometry.specs.declared.Sense.{Sense};
 ghost use Rattle.geometry.specs.declared.Spot.{Spot};
-ghost use Rattle.geometry.specs.Layout.{rects_of};
 ghost use Rattle.geometry.specs.Extreme.{NoBetter};
-ghost use Rattle.sweep.specs.Strips.{strip_room, Strip, Swept, StripIn};
-ghost use Rattle.sweep.specs.Cursors.{frame_at, TrueArea, Behind};
 ghost use Rattle.levels.specs.Levels.{far_area};
 ghost use Rattle.levels.specs.Sizes.{level_room, kept_room};
-ghost use Rattle.levels.specs.Spans.{span_from, span_to, along_strip, OnRow};
+ghost use Rattle.levels.specs.Spans.{span_from, span_to};
 ghost use Rattle.levels.specs.Passing.{Passable};
 ghost use Rattle.levels.specs.Weighing.{better_area, Stands};
-ghost use Rattle.levels.specs.Passes.{named_at, weighed_at, row_seen, rows_seen, PassLaws, StripPassable};
+ghost use Rattle.levels.specs.Passes.{named_at, weighed_at, row_seen, rows_seen, PassLaws, RowPassable};
 ghost use Rattle.levels.specs.Laws.{named_laws, weighed_laws};
 
 use crate::flags::{flag_at, put_flag};
 use crate::spans::{span_from, span_to};
 use crate::{Grid, Level};
-use geometry::{Rect, Sense, Spot};
-use sweep::{Frame, Lengths, STRIP_ROOM};
+use geometry::{Sense, Spot};
+use sweep::{Sorted, Strip, Sweep};
 
 // A pass, by what it carries along.
 pub(crate) trait Pass: Copy {
@@ -37,10 +34,11 @@ pub(crate) trait Pass: Copy {
     // What one more start does, whose flag is at this place of the table.
     ghost looked: { Sense → Self × List Bool → ℕ → Spot → Self × List Bool };
 
-    ghost laws: { PassLaws reach best counted Able looked };
+    ghost laws: { PassLaws best counted Able looked };
 
     fn reach(step: u64) -> u64
-        ensures { result ≡ reach step };
+        ensures value { result ≡ reach step }
+        ensures within { result ≤ step };
 
     // One start, with the area of its window in this pass.
     fn look(self, sense: Sense, new: &mut [bool], at: u64, seen: Spot) -> Self
@@ -131,40 +129,27 @@ fn better_area(sense: Sense, old: u64, new: u64) -> u64
     }
 }
 
-// Moves to the window of start i, by the strip of its row.
-fn frame_at(lows: &[u64], highs: &[u64], g: Grid, reach: u64, i: u64, from: Frame) -> Frame
-    requires strip { Strip lows.now highs.now }
-    requires on_row { OnRow g reach i }
-    requires behind { Behind lows.now highs.now from (span_from g.sense reach (i * g.step)) (span_to g.sense g.size g.window reach (i * g.step)) }
-    ensures value { result ≡ frame_at lows.now highs.now (span_from g.sense reach (i * g.step)) (span_to g.sense g.size g.window reach (i * g.step)) }
-    ensures true_area { TrueArea lows.now highs.now result }
-{
-    let x = i * g.step;
-    let left = span_from(g.sense, reach, x);
-    let right = span_to(g.sense, g.size, g.window, reach, x);
-    sweep::move_to(lows, highs, from, left, right)
-}
-
 // The starts of row j, by its strip.
 fn row<P: Pass>(
-    lows: &[u64],
-    highs: &[u64],
+    strip: &Strip<'_>,
     flags: &[bool],
     new: &mut [bool],
     g: Grid,
     j: u64,
     before: P,
 ) -> P
-    requires strip_passable { StripPassable lows.now highs.now flags.now g (P.reach g.step) j (P.best before) }
+    requires first { strip.now.y1 ≡ span_from g.sense (P.reach g.step) (j * g.step) }
+    requires last { strip.now.y2 ≡ span_to g.sense g.size g.window (P.reach g.step) (j * g.step) }
+    requires passable { RowPassable strip.now.sorted.now.rects.now flags.now g j (P.best before) }
     requires few { P.counted before ≤ level_room }
     requires able { P.Able g.sense before }
-    ensures { (result, new.new) ≡ row_seen (P.looked g.sense) (along_strip lows.now highs.now g (P.reach g.step)) g.step (j * g.step) (j * g.starts) g.starts (before, new.old) }
+    ensures { (result, new.new) ≡ row_seen (P.looked g.sense) (far_area g.sense strip.now.sorted.now.rects.now g.size g.window (P.reach g.step)) g.step (j * g.step) (j * g.starts) g.starts (before, new.old) }
 {
     let reach = P::reach(g.step);
     let above = j / 2 * g.stride;
     let at = j * g.starts;
     let y = j * g.step;
-    let mut frame = sweep::start_frame();
+    let mut sweep = Sweep::start(strip);
     let mut so_far = before;
     for i in 0..g.starts {
         let flagged = flag_at(flags, above + i / 2);
@@ -172,58 +157,38 @@ fn row<P: Pass>(
             so_far.pass_over(new, at + i);
             continue;
         }
-        frame = frame_at(lows, highs, g, reach, i, frame);
-        let seen = Spot {
-            area: frame.area,
-            x: i * g.step,
-            y,
-        };
-        so_far = so_far.look(g.sense, new, at + i, seen);
+        let x = i * g.step;
+        let left = span_from(g.sense, reach, x);
+        let right = span_to(g.sense, g.size, g.window, reach, x);
+        sweep.move_to(left, right);
+        let area = sweep.frame.area;
+        so_far = so_far.look(g.sense, new, at + i, Spot { area, x, y });
     }
     so_far
 }
 
-// Writes the strip of the windows of row j, bloated or shrunk by a reach, at the
-// front of a buffer.
-fn row_strip(
-    rects: &[u64],
-    order: &[usize],
-    g: Grid,
-    reach: u64,
-    j: u64,
-    out: &mut [u64],
-) -> Lengths
-    requires swept { Swept rects.now order.now }
-    requires on_row { OnRow g reach j }
-    requires strip_room_in_bounds { strip_room ≤ length out.old }
-    ensures { StripIn rects.now (span_from g.sense reach (j * g.step)) (span_to g.sense g.size g.window reach (j * g.step)) out.new result }
-{
-    let y = j * g.step;
-    let y1 = span_from(g.sense, reach, y);
-    let y2 = span_to(g.sense, g.size, g.window, reach, y);
-    sweep::strip(rects, order, y1, y2, out)
-}
-
 // All rows.
 pub(crate) fn rows<P: Pass>(
-    rects: &[u64],
-    order: &[usize],
+    sorted: &Sorted<'_>,
     flags: &[bool],
     new: &mut [bool],
     g: Grid,
     before: P,
 ) -> P
-    requires passable { Passable rects.now order.now flags.now g (P.best before) }
+    requires passable { Passable sorted.now.rects.now flags.now g (P.best before) }
     requires few { P.counted before ≡ 0 }
     requires able { P.Able g.sense before }
-    ensures { (result, new.new) ≡ rows_seen (P.looked g.sense) (far_area g.sense (rects_of rects.now) g.size g.window (P.reach g.step)) g.step g.starts g.starts (before, new.old) }
+    ensures { (result, new.new) ≡ rows_seen (P.looked g.sense) (far_area g.sense sorted.now.rects.now g.size g.window (P.reach g.step)) g.step g.starts g.starts (before, new.old) }
 {
     let reach = P::reach(g.step);
-    let mut sides = [0u64; STRIP_ROOM];
+    let mut strip = Strip::new(sorted);
     let mut so_far = before;
     for j in 0..g.starts {
-        let Lengths { low, both } = row_strip(rects, order, g, reach, j, &mut sides);
-        so_far = row(&sides[..low], &sides[low..both], flags, new, g, j, so_far);
+        let y = j * g.step;
+        let first = span_from(g.sense, reach, y);
+        let last = span_to(g.sense, g.size, g.window, reach, y);
+        strip.set_rows(first, last);
+        so_far = row(&strip, flags, new, g, j, so_far);
     }
     so_far
 }

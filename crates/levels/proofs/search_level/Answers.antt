@@ -2,7 +2,6 @@
 use mathlib.Core.Path.{ap, ◌∙◌}
 use mathlib.Core.Bool.{Bool}
 use mathlib.Core.List.{List}
-use Rattle.geometry.specs.Layout.{rects_of}
 use Rattle.levels.specs.declared.Level.{Level}
 use Rattle.levels.specs.Passes.{weighed_at, rows_seen}
 use Rattle.levels.specs.Levels.{far_area}
@@ -13,9 +12,8 @@ pub rows-requires-clause-passable : goal.rows-requires-clause-passable
 rows-requires-clause-passable c =
     let a = c.args in
     let p = c.requires.passable in
-    let rs = rects_of a.rects.now in
+    let rs = a.sorted.now.rects.now in
     record {
-      swept = p.swept;
       sized = p.sized;
       spare = harmless_on a.g.sense rs a.g a.flags.now a.g.stride a.before _ (first_names rs a.g p.sized a.before _ _ _ c.rows-named.ensures) p.spare;
     }
@@ -24,7 +22,7 @@ pub returns : goal.returns
 returns c =
     let a = c.args in
     let z = c.requires.passable.sized in
-    let rs = rects_of a.rects.now in
+    let rs = a.sorted.now.rects.now in
     let first = c.rows-named in
     let start : List Bool → Level × List Bool = λ l. (record { named = first.result; limit = first.result.area; kept = 0 }, l) in
     let done =
