@@ -4,7 +4,6 @@
 mod ending;
 
 ghost use Rattle.std.specs.Prelude.{◌/◌, ◌≡◌, length, replicate, false};
-ghost use Rattle.geometry.specs.Layout.{rects_of};
 ghost use Rattle.levels.specs.Sizes.{flags_room};
 ghost use Rattle.levels.specs.Levels.{starts_on};
 ghost use Rattle.levels.specs.Grid.{Countable};
@@ -14,6 +13,7 @@ ghost use Rattle.zoom.specs.Sizes.{Runnable, Measurable};
 use ending::{exact_end, last_level, over};
 use geometry::{Sense, Spot};
 use levels::{Grid, Level, MOST_FLAGS, flag_count, search_level, starts_on};
+use sweep::Sorted;
 
 // What is asked of a quick run: the layout's side N, the window's side W, the
 // accuracy E and the levels allowed, V.
@@ -44,36 +44,35 @@ pub struct Quick {
 
 // The quick run for an extreme. The exact run's window m comes in, so that the
 // exact level does not search again.
-pub fn quick_run(sense: Sense, rects: &[u64], order: &[usize], asked: Asked, m: Spot) -> Quick
-    requires { Runnable sense rects.now order.now asked m }
-    ensures { result ≡ quick_run sense (rects_of rects.now) asked.size asked.window asked.accuracy asked.levels }
+pub fn quick_run(sense: Sense, sorted: &Sorted<'_>, asked: Asked, m: Spot) -> Quick
+    requires { Runnable sense sorted.now.rects.now asked m }
+    ensures { result ≡ quick_run sense sorted.now.rects.now asked.size asked.window asked.accuracy asked.levels }
 {
     let mut old = [false; MOST_FLAGS];
     let mut new = [false; MOST_FLAGS];
-    run_levels(sense, rects, order, asked, m, &mut old, &mut new)
+    run_levels(sense, sorted, asked, m, &mut old, &mut new)
 }
 
 // Its levels. `old` has the flags of the level before, none at first, and `new` gets
 // those of this one.
 fn run_levels(
     sense: Sense,
-    rects: &[u64],
-    order: &[usize],
+    sorted: &Sorted<'_>,
     asked: Asked,
     m: Spot,
     old: &mut [bool],
     new: &mut [bool],
 ) -> Quick
-    requires runnable { Runnable sense rects.now order.now asked m }
+    requires runnable { Runnable sense sorted.now.rects.now asked m }
     requires unflagged { old.old ≡ replicate flags_room false }
     requires room { length new.old ≡ flags_room }
-    ensures { result ≡ quick_run sense (rects_of rects.now) asked.size asked.window asked.accuracy asked.levels }
+    ensures { result ≡ quick_run sense sorted.now.rects.now asked.size asked.window asked.accuracy asked.levels }
 {
     let last = last_level(asked.window);
-    let mut before = extremes::first_window(rects, asked.window);
+    let mut before = extremes::first_window(sorted.rects, asked.window);
     let mut grid = first_grid(sense, asked.size, asked.window);
     for j in 0..last {
-        let this = search_level(rects, order, old, new, grid, before);
+        let this = search_level(sorted, old, new, grid, before);
         if let Some(answer) = over(sense, asked, j, this) {
             return answer;
         }
@@ -82,7 +81,7 @@ fn run_levels(
         before = this.named;
         grid = finer(grid);
     }
-    let this = search_level(rects, order, old, new, grid, before);
+    let this = search_level(sorted, old, new, grid, before);
     over(sense, asked, last, this).unwrap_or(exact_end(sense, last, this.named, m))
 }
 

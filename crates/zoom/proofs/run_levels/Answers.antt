@@ -18,7 +18,7 @@ search_level-this-requires c =
     let p = c.requires.runnable in
     let at = c.loop-j.invariant in
     record {
-      passable = record { swept = p.swept; sized = run_sized at p.some_window p.window_fits p.small; spare = run_spares at p.some_window };
+      passable = record { sized = run_sized at p.some_window p.window_fits p.small; spare = run_spares at p.some_window };
       at_start = run_start at p.some_window;
     }
 
@@ -27,7 +27,7 @@ search_level-this-requires-2 c =
     let p = c.requires.runnable in
     let at = c.loop-j.invariant in
     record {
-      passable = record { swept = p.swept; sized = run_sized at p.some_window p.window_fits p.small; spare = run_spares at p.some_window };
+      passable = record { sized = run_sized at p.some_window p.window_fits p.small; spare = run_spares at p.some_window };
       at_start = run_start at p.some_window;
     }
 
