@@ -109,7 +109,7 @@ module _ (h : Head) (rects : List Rect) (amounts : List ℕ) where
       }
 
   -- what judging the fill asks
-  pub planned : Ready h rects amounts → {p : Plan} → p ≡ plan_of h → Planned rects amounts p
+  pub planned : Ready h rects amounts → {p : Plan} → p ≡ plan_of h → Planned amounts p
   planned r e = rw e r.planned
 
   -- a job at a number of amounts that the code computed
