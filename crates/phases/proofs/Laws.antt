@@ -14,8 +14,8 @@ use Rattle.forms.specs.declared.Head.{Head}
 use Rattle.forms.specs.Limits.{unit_limits}
 use Rattle.jobfile.specs.declared.Job.{Job}
 use Rattle.standing.specs.Filling.{plan_of}
-use Rattle.jobfile.specs.File.{Outcome, refused, accepted, outcome_of}
-use Rattle.jobfile.specs.Lined.{as_job}
+use Rattle.jobfile.specs.File.{outcome_of}
+use Rattle.jobfile.specs.Lined.{IsJob}
 use Rattle.answers.specs.declared.Answer.{Answer}
 use Rattle.run.specs.Answering.{quick_of, answer_for, quick_in}
 use Rattle.unit.specs.Readable.{job_answer}
@@ -49,13 +49,5 @@ other_phase (suc (suc (suc (suc (suc (suc n)))))) a p q r s t = refl
 pub told_phase : (k m : ℕ) (a : Answer) {x : ℕ} → k ≡ m → x ≡ phase_number m a → x ≡ phase_number k a
 told_phase k m a e p = rw e p
 
-module _ (file : List ℕ) (j : Job) (is : j ≡ as_job (outcome_of unit_limits file)) (k : ℕ) where
-  pub refused_phase : (j.fault ≡ 0 → ⊥) → 0 ≡ phase_of k (outcome_of unit_limits file)
-  refused_phase bad = go (outcome_of unit_limits file) is
-    where
-      go : (o : Outcome) → j ≡ as_job o → 0 ≡ phase_of k o
-      go (refused number line) e = refl
-      go (accepted st) e = absurd (bad (ap (λ (i : Job). i.fault) e))
-
-  pub accepted_phase : (good : j.fault ≡ 0) {x : ℕ} → x ≡ phase_number k (job_answer j) → x ≡ phase_of k (outcome_of unit_limits file)
-  accepted_phase good e = let s = accepted_answer file j is good in e ∙ ap (phase_number k) s.2 ∙ sym (ap (phase_of k) s.1)
+pub accepted_phase : (file : List ℕ) (j : Job) → IsJob (outcome_of unit_limits file) j → (k : ℕ) {x : ℕ} → x ≡ phase_number k (job_answer j) → x ≡ phase_of k (outcome_of unit_limits file)
+accepted_phase file j is k e = let s = accepted_answer file j is in e ∙ ap (phase_number k) s.2 ∙ sym (ap (phase_of k) s.1)

@@ -143,10 +143,8 @@ fn job_phase(phase: u64, job: Job) -> u64
 pub fn density_phase(file: &[u8], phase: u64) -> u64
     ensures { result ≡ phase_of phase (outcome_of unit_limits file.now) }
 {
-    let job = jobfile::read(file);
-    let fault = job.fault;
-    if fault != 0 {
-        return 0;
+    match jobfile::read(file) {
+        Ok(job) => job_phase(phase, job),
+        Err(_) => 0,
     }
-    job_phase(phase, job)
 }

@@ -1,6 +1,6 @@
 -- From what rendering leaves to the reply and the buffer.
 use Prim.Native.Nat.{ℕ, ◌+◌, ◌^◌, ◌≤◌, ◌<◌}
-use mathlib.Core.Path.{◌≡◌, refl, sym, ap, ◌∙◌, subst}
+use mathlib.Core.Path.{◌≡◌, refl, sym, ap, ap₂, ◌∙◌, subst}
 use mathlib.Core.Bool.{Bool, true, false, not, ◌&&◌}
 use mathlib.Core.List.{List, [], ◌∷◌, ◌++◌}
 use native.Mathlib.Nat.{zero-add}
@@ -24,16 +24,16 @@ use Rattle.standing.specs.Faults.{Standing, before_head, check, in_turn, own_fau
 use Rattle.jobfile.specs.File.{Outcome, refused, accepted, outcome_of}
 use Rattle.jobfile.specs.Acceptance.{forms_text, LineFault, spelled, unspelled, FirstFault, faulty, unfed, unended, RefusedFile, long, lines}
 use Rattle.jobfile.proofs.Files.{acceptance}
-use Rattle.unit.specs.declared.Reply.{Reply}
-use Rattle.unit.specs.declared.Reply.TheVariants.{Accepted, Refused}
-use Rattle.unit.specs.declared.render.Rendered.{Rendered}
+use Rattle.jobfile.specs.declared.Refusal.{Refusal}
+use Rattle.std.specs.Prelude.{Ok, Err}
+use Rattle.standing.specs.Fault.{fault_number}
 use Rattle.answers.specs.Lines.{text_of}
-use Rattle.unit.specs.Whole.{answer_of, reply_to, buffer_after, reply_for, buffer_for, reply_number, reply_value, code_of, printed_of, printed_for}
+use Rattle.unit.specs.Whole.{answer_of, Reply, Accepted, Refused, reply_of, reply_to, buffer_after, reply_for, buffer_for, reply_number, reply_value, code_of, printed_of, printed_for}
 use Rattle.answers.specs.Room.{answer_room}
 use Rattle.unit.specs.Guarantee.{Guarantee, Reported}
 use Rattle.answers.specs.Writing.{WrittenIn}
-use Rattle.unit.specs.Rendering.{as_rendered, rendered_in, Rendering}
-use Rattle.unit.proofs.Accepting.{promised, refused_positive, found_accepted}
+use Rattle.unit.specs.Rendering.{rendered, rendered_in, Rendering}
+use Rattle.unit.proofs.Accepting.{promised, refused_positive}
 
 -- ---- how large a fault's number and line may be
 
@@ -148,38 +148,42 @@ reported {file = file} f = record { printed = f; promised = promised file }
 
 -- ---- the three ways in which `answer` returns
 
-module _ (file before text : List ℕ) (d : Rendered) (p : Rendering (outcome_of unit_limits file) before text d) where
-  -- where rendering found no fault the file is accepted, and its text stands at the front
-  found : d.fault ≡ 0 → (st : Standing) × (outcome_of unit_limits file ≡ accepted st)
-  found good = found_accepted file (λ o. (as_rendered o).fault) (λ number line. refl) (sym (ap (λ (r : Rendered). r.fault) p.numbers) ∙ good)
-
-  pub answer_refused : (d.fault ≡ 0 → ⊥) → (out : List ℕ) → Returned file out (Refused d.fault d.line) out
-  answer_refused bad out = go (outcome_of unit_limits file) refl p.numbers
+module _ (file before text : List ℕ) where
+  pub answer_refused : (e : Refusal) → Rendering (outcome_of unit_limits file) before text (Err e) → (out : List ℕ) → Returned file out (reply_of (Err e)) out
+  answer_refused e p out = go (outcome_of unit_limits file) refl p.reply
     where
-      go : (o : Outcome) → outcome_of unit_limits file ≡ o → d ≡ as_rendered o → Returned file out (Refused d.fault d.line) out
-      go (accepted st) q e = absurd (bad (ap (λ (r : Rendered). r.fault) e))
-      go (refused number line) q e =
+      go : (o : Outcome) → outcome_of unit_limits file ≡ o → reply_of (Err e) ≡ rendered o → Returned file out (reply_of (Err e)) out
+      go (accepted st) q r = let z : ◌≡◌ {A = ℕ} 0 1 = cc in absurd (omega arith)
+      go (refused number line) q r =
           let most = refused_at_most file number line q in
           record {
-            reply = (λ i. Refused (e i).fault (e i).line) ∙ sym (ap (λ (o : Outcome). reply_to o (length out)) q);
+            reply = r ∙ sym (ap (λ (o : Outcome). reply_to o (length out)) q);
             buffer = sym (ap (λ (o : Outcome). buffer_after o out) q);
-            decodes = omega (arith, most.1, ap (λ (r : Rendered). r.line) e);
-            room_enough = λ h z. omega (arith, z, most.0, ap (λ (r : Rendered). r.fault) e);
+            decodes = omega (arith, most.1, ap reply_value r);
+            room_enough = λ h z. omega (arith, z, most.0, ap reply_number r);
           }
 
-  module _ (good : d.fault ≡ 0) (out : List ℕ) where
+  module _ (n : ℕ) (p : Rendering (outcome_of unit_limits file) before text (Ok n)) where
+    -- the file is accepted, and its text stands at the front
+    found : (st : Standing) × (outcome_of unit_limits file ≡ accepted st)
+    found = go (outcome_of unit_limits file) refl p.reply
+      where
+        go : (o : Outcome) → outcome_of unit_limits file ≡ o → reply_of (Ok n) ≡ rendered o → (st : Standing) × (outcome_of unit_limits file ≡ accepted st)
+        go (accepted st) q r = (st, q)
+        go (refused number line) q r = let z : ◌≡◌ {A = ℕ} 0 1 = cc in absurd (omega arith)
+
     st : Standing
-    st = (found good).0
+    st = found.0
 
     is : outcome_of unit_limits file ≡ accepted st
     unfolding st
-    is = (found good).1
+    is = found.1
 
-    long_is : d.length ≡ length (text_of (answer_of st))
-    long_is = ap (λ (r : Rendered). r.length) (p.numbers ∙ ap as_rendered is)
+    long_is : n ≡ length (text_of (answer_of st))
+    long_is = ap reply_value (p.reply ∙ ap rendered is)
 
-    pub answer_short : length out < d.length → Returned file out (Refused 13 0) out
-    answer_short h =
+    pub answer_short : (out : List ℕ) → length out < n → Returned file out (Refused 13 0) out
+    answer_short out h =
         let t : leb (length (text_of (answer_of st))) (length out) ≡ false = lt-leb (length (text_of (answer_of st))) (length out) (omega (arith, long_is)) in
         record {
           reply = rw (is, reply_to) (rw t);
@@ -188,17 +192,17 @@ module _ (file before text : List ℕ) (d : Rendered) (p : Rendering (outcome_of
           room_enough = λ k z. omega (arith, h, k, p.short);
         }
 
-    front : take d.length text ≡ text_of (answer_of st)
+    front : take n text ≡ text_of (answer_of st)
     front =
-        ap (λ (s : List ℕ). take d.length s) (p.buffer ∙ ap (λ (o : Outcome). rendered_in o before) is)
-        ∙ take_at (text_of (answer_of st)) (drop (length (text_of (answer_of st))) before) d.length (sym long_is)
+        ap (λ (s : List ℕ). take n s) (p.buffer ∙ ap (λ (o : Outcome). rendered_in o before) is)
+        ∙ take_at (text_of (answer_of st)) (drop (length (text_of (answer_of st))) before) n (sym long_is)
 
-    pub answer_fits : {room : ℕ} (after : List ℕ) (next : ℕ) → d.length ≤ length out → WrittenIn room out 0 (take d.length text) after next →
-        Returned file out (Accepted d.length) after
-    answer_fits after next h w =
+    pub answer_fits : (out : List ℕ) {room : ℕ} (after : List ℕ) (next : ℕ) → n ≤ length out → WrittenIn room out 0 (take n text) after next →
+        Returned file out (Accepted n) after
+    answer_fits out after next h w =
         let t : leb (length (text_of (answer_of st))) (length out) ≡ true = le-leb (length (text_of (answer_of st))) (length out) (omega (arith, long_is)) in
         let put : after ≡ text_of (answer_of st) ++ drop (length (text_of (answer_of st))) out =
-        w.written.buffer ∙ ap (λ (k : ℕ). take d.length text ++ drop k out) (zero-add (length (take d.length text)))
+        w.written.buffer ∙ ap (λ (k : ℕ). take n text ++ drop k out) (zero-add (length (take n text)))
         ∙ ap (λ (s : List ℕ). s ++ drop (length s) out) front in
         record {
           reply = rw (is, reply_to) (rw t (ap Accepted long_is));
@@ -207,27 +211,27 @@ module _ (file before text : List ℕ) (d : Rendered) (p : Rendering (outcome_of
           room_enough = λ k z. omega (arith, z);
         }
 
-    pub printed_answer : Front before (printed_for file) text d.length
+    pub printed_answer : Front before (printed_for file) text n
     printed_answer = rw is (record { count = long_is; buffer = p.buffer ∙ ap (λ (o : Outcome). rendered_in o before) is })
 
 -- the line that a refused file prints
 refusal : (number line : ℕ) → List ℕ
 refusal number line = spell (bytes "(refused # #)\n") (number ∷ line ∷ [])
 
-pub printed_refusal : (file before text : List ℕ) (d : Rendered) → Rendering (outcome_of unit_limits file) before text d → (d.fault ≡ 0 → ⊥) → (after : List ℕ) (next : ℕ) →
-    WrittenIn 54 text 0 (spell (bytes "(refused # #)\n") (d.fault ∷ d.line ∷ [])) after next → Front before (printed_for file) after next
+pub printed_refusal : (file before text : List ℕ) (e : Refusal) → Rendering (outcome_of unit_limits file) before text (Err e) → (k : ℕ) → k ≡ fault_number e.fault →
+    (after : List ℕ) (next : ℕ) → WrittenIn 54 text 0 (spell (bytes "(refused # #)\n") (k ∷ e.line ∷ [])) after next → Front before (printed_for file) after next
 unfolding refusal
-printed_refusal file before text d p bad after next w = go (outcome_of unit_limits file) p
+printed_refusal file before text e p k f after next w = go (outcome_of unit_limits file) p
   where
-    go : (o : Outcome) → Rendering o before text d → Front before (printed_of o) after next
-    go (accepted st) q = absurd (bad (ap (λ (r : Rendered). r.fault) q.numbers))
+    go : (o : Outcome) → Rendering o before text (Err e) → Front before (printed_of o) after next
+    go (accepted st) q = let r = q.reply in let z : ◌≡◌ {A = ℕ} 0 1 = cc in absurd (omega arith)
     go (refused number line) q =
-        let same : refusal d.fault d.line ≡ refusal number line = λ i. refusal (q.numbers i).fault (q.numbers i).line in
+        let same : refusal k e.line ≡ refusal number line = ap₂ refusal (f ∙ ap reply_number q.reply) (ap reply_value q.reply) in
         record {
-          count = w.written.place ∙ zero-add (length (refusal d.fault d.line)) ∙ ap length same;
+          count = w.written.place ∙ zero-add (length (refusal k e.line)) ∙ ap length same;
           buffer =
               w.written.buffer
-              ∙ ap (λ (k : ℕ). refusal d.fault d.line ++ drop k text) (zero-add (length (refusal d.fault d.line)))
+              ∙ ap (λ (i : ℕ). refusal k e.line ++ drop i text) (zero-add (length (refusal k e.line)))
               ∙ ap (λ (t : List ℕ). t ++ drop (length t) text) same
               ∙ ap (λ (l : List ℕ). refusal number line ++ drop (length (refusal number line)) l) q.buffer;
         }

@@ -9,17 +9,8 @@ ghost use Rattle.unit.specs.Readable.{job_answer, Readable};
 ghost use Rattle.unit.specs.Rendering.{Rendering};
 
 use answers::write_answer;
-use jobfile::Job;
+use jobfile::{Job, Refusal};
 use run::run;
-
-// What rendering a file gives: number and line of its fault, or the length of
-// its answer.
-#[derive(Clone, Copy)]
-pub(crate) struct Rendered {
-    pub fault: u64,
-    pub line: u64,
-    pub length: usize,
-}
 
 // Writes the answer to a job at the front of a buffer.
 fn render_job(job: Job, text: &mut [u8]) -> usize
@@ -37,24 +28,11 @@ fn render_job(job: Job, text: &mut [u8]) -> usize
 }
 
 // Reads a file and, where it is accepted, writes its answer at the front of a
-// buffer.
-pub(crate) fn render(file: &[u8], text: &mut [u8]) -> Rendered
+// buffer; what comes back is the answer's length.
+pub(crate) fn render(file: &[u8], text: &mut [u8]) -> Result<usize, Refusal>
     requires { answer_room ≤ length text.old }
     ensures { Rendering (outcome_of unit_limits file.now) text.old text.new result }
 {
-    let job = jobfile::read(file);
-    let fault = job.fault;
-    if fault != 0 {
-        return Rendered {
-            fault,
-            line: job.line,
-            length: 0,
-        };
-    }
-    let length = render_job(job, text);
-    Rendered {
-        fault: 0,
-        line: 0,
-        length,
-    }
+    let job = jobfile::read(file)?;
+    Ok(render_job(job, text))
 }

@@ -1,9 +1,9 @@
--- `faults::shape_fault` meets its contract. Each return cites the tests that led there. Assumes nothing.
+-- `faults::check_shape` meets its contract. Each return cites the tests that led there. Assumes nothing.
 use mathlib.Core.Path.{sym}
 use borrow.Author.Rules.{rules}
 use lib.Seq.{length-take-le}
 use Rattle.faults.proofs.Faulting.{shape_outside, shape_many, shape_shared, shape_right}
-use Rattle.faults.proofs.shape_fault.Goals as goal
+use Rattle.faults.proofs.check_shape.Goals as goal
 
 pub returns-then-not-fits_layout : goal.returns-then-not-fits_layout
 returns-then-not-fits_layout c = search shape_outside
