@@ -15,7 +15,7 @@ pub(crate) struct Search {
     ghost small: { last + w ≤ widest },
 }
 
-// A row of its windows, by the strip of all that they reach.
+// A row of its windows, and the strip that they lie in.
 #[derive(Clone, Copy)]
 pub(crate) struct Row<'a> {
     pub search: Search,

@@ -76,7 +76,7 @@ fn search_ends(row: Row<'_>, best: Spot) -> Spot
 
 // Tries the windows of a row at every candidate.
 pub(crate) fn search_row(row: Row<'_>, best: Spot) -> Spot
-    ensures { result ≡ leading_along row.entry (tried_row row.entry.search.sense row.entry.search.w row.entry.search.last row.entry.strip.now.sorted.now row.entry.strip.now.y1) best }
+    ensures { let r = row.entry in result ≡ leading_along r (tried_row r.search.sense r.search.w r.search.last r.strip.now.sorted.now r.strip.now.y1) best }
 {
     let lows = row.strip.lows.as_slice();
     let highs = row.strip.highs.as_slice();
