@@ -72,7 +72,8 @@ impl<'a> Left<'a> {
 
     // The place of the region that the nearest square of the box lies deepest in: it is
     // likely to make many others idle. The contract leaves open which it is, since every
-    // one gives the same count.
+    // one gives the same count. No `max_by_key`: that its closure may be called for each
+    // place did not close.
     pub(crate) fn deepest(self) -> u16
         requires { 0 < length self.places.now }
         ensures { Contains self.entry.places.now result }
