@@ -36,47 +36,6 @@ use Rattle.standing.proofs.ShapeTables.{rects_by, by_length}
 use Rattle.standing.proofs.InOrder.{outside_first, many_next, shared_last, no_tile_first, filled_next, over_last}
 use Rattle.standing.proofs.Sound.{after_head}
 
--- ---- the turn
-
-module _ (t : Turn) (f : Form) (n : ℕ) (e : n ≡ rank_of f) where
-  pub turn_before : t ≡ Before → eqb n 1 ≡ in_turn t f
-  turn_before q = rw (e, q)
-
-  pub turn_shapes : t ≡ Shapes → leb 2 n ≡ in_turn t f
-  turn_shapes q = rw (e, q)
-
-  pub turn_fills : t ≡ Fills → leb 3 n ≡ in_turn t f
-  turn_fills q = rw (e, q)
-
--- ---- a head
-
-pub head_wrong : (h : Head) (r : Bool) → r ≡ agrees unit_limits h → r ≡ false → 5 ≡ check (agrees unit_limits h) 5 0
-head_wrong h r a b = rw (← a, b)
-
-pub head_right : (h : Head) (r : Bool) → r ≡ agrees unit_limits h → r ≡ true → 0 ≡ check (agrees unit_limits h) 5 0
-head_right h r a b = rw (← a, b)
-
--- ---- a line
-
-module _ (st : Standing) (f : Form) where
-  pub line_unknown : (r : Bool) → r ≡ known f → r ≡ false → 2 ≡ line_fault unit_limits st f
-  unfolding line_fault
-  line_unknown r a b = rw (← a, b)
-
-  module _ (r₁ : Bool) (a₁ : r₁ ≡ known f) (b₁ : r₁ ≡ true) where
-    pub line_range : (r : Bool) → r ≡ in_range unit_limits f → r ≡ false → 3 ≡ line_fault unit_limits st f
-    unfolding line_fault
-    line_range r a b = rw (← a₁, b₁, ← a, b)
-
-    module _ (r₂ : Bool) (a₂ : r₂ ≡ in_range unit_limits f) (b₂ : r₂ ≡ true) where
-      pub line_turn : (r : Bool) → r ≡ in_turn st.turn f → r ≡ false → 4 ≡ line_fault unit_limits st f
-      unfolding line_fault
-      line_turn r a b = rw (← a₁, b₁, ← a₂, b₂, ← a, b)
-
-      pub line_own : (r : Bool) (n : ℕ) → r ≡ in_turn st.turn f → r ≡ true → n ≡ own_fault unit_limits st f → n ≡ line_fault unit_limits st f
-      unfolding line_fault
-      line_own r n a b e = rw (← a₁, b₁, ← a₂, b₂, ← a, b) e
-
 -- ---- a shape
 
 module _ (s : State) (shapes : List ℕ) (r : Rect) (whole : 4 * s.count ≤ length shapes) where
@@ -109,23 +68,11 @@ module _ (s : State) (shapes : List ℕ) (r : Rect) (whole : 4 * s.count ≤ len
 
 -- ---- a fill
 
--- the tile lies in the layout of a good head
-pub tile_in : (h : Head) (i j : ℕ) → GoodHead h → has_tile h i j ≡ true → TileIn h i j
-tile_in h i j g e = let k = has_tile_lem h i j e in record { few = (head_facts h g).tiles_most; column = k.0; row = k.1 }
-
--- its place among the tiles
+-- a tile's place among the tiles of its layout
 tile_inside : (h : Head) (i j : ℕ) → has_tile h i j ≡ true → tile_index (tiles_across h) i j < tile_count h
 tile_inside h i j e = let k = has_tile_lem h i j e in digits_lt k.1 k.0
 
--- and in the table of amounts
-pub tile_in_table : (h : Head) (amounts : List ℕ) (i j at : ℕ) → AmountsKept h amounts → has_tile h i j ≡ true → at ≡ tile_index (tiles_across h) i j →
-    at < amounts_room
-tile_in_table h amounts i j at k e place = rw place (lt_of_lt_of_le (tile_inside h i j e) k.tiles)
-
 module _ (h : Head) (amounts : List ℕ) (i j p : ℕ) (t : Bool) (a : t ≡ has_tile h i j) where
-  pub fill_outside : (room : ℕ) → t ≡ false → 7 ≡ fill_fault h (take (tile_count h) amounts) room i j p
-  fill_outside room b = no_tile_first h (take (tile_count h) amounts) room i j p (sym a ∙ b)
-
   module _ (b : t ≡ true) (at : ℕ) (place : at ≡ tile_index (tiles_across h) i j) where
     stands : number_at (take (tile_count h) amounts) (tiles_across h) i j ≡ get_or amounts at 0
     stands =
@@ -146,26 +93,9 @@ module _ (h : Head) (amounts : List ℕ) (i j p : ℕ) (t : Bool) (a : t ≡ has
       unfolding fill_fault
       fill_right n = rw (← a, b, stands, eq-eqb (get_or amounts at 0) 0 free, ← area, le-leb p found n)
 
--- what the fillable area of a tile asks of the tile's box
-pub tile_small : (h : Head) (i j : ℕ) (b : Rect) → GoodHead h → TileIn h i j → b ≡ tile (tile_side h) i j → SmallBox b
-tile_small h i j b g k e =
-    rw e
-    (record {
-      across = omega (arith, suc-mul i (tile_side h));
-      up = omega (arith, suc-mul j (tile_side h));
-      right = le_trans (tile_end h i (head_facts h g) k.column) (lit≤ tt);
-      high = le_trans (tile_end h j (head_facts h g) k.row) (lit≤ tt);
-    })
-
 -- ---- each form by itself
 
 module _ (s : State) (shapes amounts : List ℕ) (f : Form) where
-  pub own_unknown : f ≡ Unknown → 2 ≡ own_fault unit_limits (standing s shapes amounts) f
-  own_unknown e = rw e
-
-  pub own_heading : (h : Head) (n : ℕ) → f ≡ Heading h → n ≡ check (agrees unit_limits h) 5 0 → n ≡ own_fault unit_limits (standing s shapes amounts) f
-  own_heading h n e k = rw e k
-
   pub own_shape : (m : Shape) (n : ℕ) → f ≡ Metal m → n ≡ shape_fault unit_limits (standing s shapes []) m.rect → n ≡ own_fault unit_limits (standing s shapes amounts) f
   unfolding shape_fault
   own_shape m n e k = rw e k
@@ -180,16 +110,6 @@ module _ (s : State) (shapes amounts : List ℕ) (f : Form) where
       (regions_fillable (take (region_numbers * s.count) regions) (keepouts s.head.gap (shapes_in s.count shapes)) (tile (tile_side s.head) i j)
       held.shaped.kept))
 
-  pub own_end : f ≡ End → 0 ≡ own_fault unit_limits (standing s shapes amounts) f
-  own_end e = rw e
-
 -- a fill in turn comes after the head
 pub fill_headed : (t : Turn) (f : Form) (i j p : ℕ) → f ≡ Fill i j p → in_turn t f ≡ true → t ≡ Before → ⊥
 fill_headed t f i j p e k = after_head t f k (λ h q. let z : ◌≡◌ {A = ℕ} 0 1 = cc in omega arith)
-
--- what a tile's corners ask
-pub tile_corners : (h : Head) (i j d : ℕ) → GoodHead h → TileIn h i j → d ≡ tile_side h → (suc i * d ≤ widest) × (suc j * d ≤ widest)
-tile_corners h i j d g k e = (rw e (le_trans (tile_end h i f k.column) (lit≤ tt)), rw e (le_trans (tile_end h j f k.row) (lit≤ tt)))
-  where
-    f : HeadFacts h
-    f = head_facts h g

@@ -8,15 +8,5 @@ use crate::Form;
 pub fn is_known(f: Form) -> bool
     ensures { result ≡ known f }
 {
-    match f {
-        Form::Unknown => false,
-        Form::Heading(_) => true,
-        Form::Metal(_) => true,
-        Form::Fill {
-            column: _,
-            row: _,
-            amount: _,
-        } => true,
-        Form::End => true,
-    }
+    !matches!(f, Form::Unknown)
 }

@@ -50,7 +50,8 @@ pub struct Shape {
     pub rect: Rect,
 }
 
-// What a line spells. Unknown is a line that is none of the spellings.
+// What a line spells. Unknown is a line that is none of the spellings: a form and no
+// `None`, since `line_fault` lists its fault, 2, before those of the others.
 #[derive(Clone, Copy)]
 pub enum Form {
     Unknown,

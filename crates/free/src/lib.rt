@@ -40,13 +40,11 @@ fn all_places(regions: &[Region]) -> ArrayVec<u16, LIVE_ROOM>
     places
 }
 
-// The squares of a box, such as a tile, that no region of a table holds. Where the
-// regions are those of shapes, it is the fillable area.
-pub fn fillable(regions: &[Region], b: Rect) -> u64
+// The squares of a box that no region of a table holds.
+fn squares_outside(regions: &[Region], b: Rect) -> u64
     requires few { length regions.now ≤ live_room }
     requires small_box { SmallBox b }
-    ensures free { result ≡ free_in regions.now b }
-    ensures eligible { Fillable regions.now b result }
+    ensures { result ≡ free_in regions.now b }
 {
     if is_empty(b) {
         return 0;
@@ -62,6 +60,19 @@ pub fn fillable(regions: &[Region], b: Rect) -> u64
         places: places.as_slice(),
     };
     left.free_by(places[0])
+}
+
+// The squares of a box, such as a tile, that no region of a table holds, by a part
+// of the table that is enough for the box. Where the regions are those of shapes,
+// it is the fillable area.
+pub fn fillable(regions: &[Region], near: Part, b: Rect) -> u64
+    requires few { length regions.now ≤ live_room }
+    requires small_box { SmallBox b }
+    requires serves { Serves regions.now b near }
+    ensures free { result ≡ free_in regions.now b }
+    ensures eligible { Fillable regions.now b result }
+{
+    squares_outside(&regions[near.from..near.to], b)
 }
 
 // A part of a table that is enough for a box and for every box inside: from the

@@ -6,32 +6,53 @@ use mathlib.Core.List.{List, [], ◌∷◌, ◌++◌}
 use native.Mathlib.Numerals.{add-one}
 use native.Mathlib.Omega.{arith}
 use lib.Dec.{ltb, eqb, lit≤}
-use lib.ListN.{length, take, drop, length-drop, take-append-drop, drop_of_length-le}
-use lib.Seq.{drop-drop, length-take-le, take_all}
-use borrow.Author.Tests.{lt-ltb, le-ltb, le-leb, lt-leb, ltb-true, ltb-false, eq-eqb, ne_eqb}
+use lib.ListN.{length, take, drop, length-drop, take-append-drop}
+use lib.Seq.{length-take-le, take_all}
+use borrow.Author.Tests.{lt-ltb, le-ltb, le-leb, lt-leb, ltb-true, ltb-false, eq-eqb, ne_eqb, eqb-true, eqb-false}
 use Rattle.geometry.specs.Layout.{rects_of}
 use Rattle.spelling.specs.Text.{in_front, pieces}
 use Rattle.spelling.specs.Scanning.{line_length}
 use Rattle.spelling.proofs.Lines.{pieces_line, pieces_last}
 use Rattle.free.proofs.RegionTables.{regions_none}
 use Rattle.forms.specs.declared.Head.{Head}
-use Rattle.forms.specs.declared.Form.{Form}
 use Rattle.forms.specs.Limits.{Limits, unit_limits}
 use Rattle.forms.specs.Forms.{tile_count}
 use Rattle.lines.specs.Reading.{form_of}
-use Rattle.standing.specs.declared.Near.TheVariants.{NoRow}
 use Rattle.standing.specs.declared.State.{State}
-use Rattle.jobfile.specs.declared.Step.{Step}
-use Rattle.jobfile.specs.declared.Ending.{Ending}
+use Rattle.jobfile.specs.declared.reader.Line.{Line}
+use Rattle.jobfile.specs.declared.Refusal.{Refusal}
+use Rattle.standing.specs.declared.fault.Fault.{Fault}
+use Rattle.standing.specs.declared.fault.Fault.TheVariants.{TooLong, NotSpelled, OutOfRange, OutOfTurn, HeadDisagrees, OutsideLayout, NoSuchTile, TooManyShapes, SharedSquare, FilledTwice, NoRoom, NoEnd, ShortBuffer}
+use Rattle.standing.specs.Fault.{fault_number}
+use Rattle.std.specs.Prelude.{None, Ok, Err}
 use Rattle.jobfile.specs.declared.Job.{Job}
 use Rattle.standing.specs.declared.Turn.{Turn}
 use Rattle.standing.specs.declared.Turn.TheVariants.{Before, Shapes, Fills, Done}
 use Rattle.standing.specs.Faults.{Standing, before_head, no_head, line_fault, stands_after}
 use Rattle.jobfile.specs.File.{Outcome, refused, at_end, after_last, read_lines, outcome_of}
-use Rattle.standing.specs.Held.{amounts_room, shapes_by, shapes_in, standing, table_of, padded, AmountsKept, Held, Entered}
-use Rattle.jobfile.specs.Lined.{Cleared, first_line, first_fault, LineRead, end_fault, job_of, as_job}
+use Rattle.standing.specs.Held.{amounts_room, shapes_by, shapes_in, standing, table_of, padded, AmountsKept, Held}
+use Rattle.jobfile.specs.Lined.{Cleared, first_line, first_fault, LineRead, end_fault, EndsWith, refused_as, IsJob}
 use Rattle.standing.proofs.Tables.{zeros}
 use Rattle.standing.proofs.Sound.{sound_start}
+
+-- no fault has the number 0
+pub fault_some : (f : Fault) → fault_number f ≡ 0 → ⊥
+fault_some f e = omega (arith, numbered f)
+  where
+    numbered : (f : Fault) → 1 ≤ fault_number f
+    numbered TooLong = lit≤ tt
+    numbered NotSpelled = lit≤ tt
+    numbered OutOfRange = lit≤ tt
+    numbered OutOfTurn = lit≤ tt
+    numbered HeadDisagrees = lit≤ tt
+    numbered OutsideLayout = lit≤ tt
+    numbered NoSuchTile = lit≤ tt
+    numbered TooManyShapes = lit≤ tt
+    numbered SharedSquare = lit≤ tt
+    numbered FilledTwice = lit≤ tt
+    numbered NoRoom = lit≤ tt
+    numbered NoEnd = lit≤ tt
+    numbered ShortBuffer = lit≤ tt
 
 -- ---- one line more
 
@@ -112,48 +133,16 @@ module _ (m : Limits) (st : Standing) (k : ℕ) (rest : List ℕ) where
           let f = unfed_fault (ltb-false (line_length rest) (length rest) q) in
           ap (read_lines m st k) (pieces_last rest (ltb-false (line_length rest) (length rest) q)) ∙ read_last m st k rest ∙ last rest h ∙ ap (λ (n : ℕ). refused n k) (sym f)
 
--- ---- one line, as the code reads it
+-- ---- what was read, and what is left of the file
 
-module _ (rest : List ℕ) (s : State) (shapes regions amounts : List ℕ) (n : ℕ) (e : n ≡ line_length rest) where
-  pub read_unfed : length rest ≤ n → LineRead rest s shapes regions amounts (record { fault = 2; used = n + 1; state = s }) shapes regions amounts
-  read_unfed h =
-      record {
-        fault = sym (unfed_fault unit_limits (standing s shapes amounts) 0 rest (omega (arith, e)));
-        used = ap (λ (m : ℕ). m + 1) e;
-        good = λ z. absurd (omega arith);
-        bad = λ z. (refl, refl, refl, refl);
-      }
-
-  module _ (h : n < length rest) (f : Form) (q : f ≡ form_of unit_limits (take n rest)) (fault : ℕ) (p : fault ≡ line_fault unit_limits (standing s shapes amounts) f) where
-    same_form : f ≡ form_of unit_limits (first_line rest)
-    same_form = q ∙ ap (λ (m : ℕ). form_of unit_limits (take m rest)) e
-
-    same_fault : fault ≡ first_fault unit_limits (standing s shapes amounts) rest
-    same_fault = p ∙ ap (line_fault unit_limits (standing s shapes amounts)) same_form ∙ sym (fed_fault unit_limits (standing s shapes amounts) 0 rest (omega (arith, e)))
-
-    pub read_faulty : (fault ≡ 0 → ⊥) → LineRead rest s shapes regions amounts (record { fault = fault; used = n + 1; state = s }) shapes regions amounts
-    read_faulty z = record { fault = same_fault; used = ap (λ (m : ℕ). m + 1) e; good = λ g. absurd (z g); bad = λ b. (refl, refl, refl, refl) }
-
-    pub read_good : (s' : State) (shapes' regions' amounts' : List ℕ) → fault ≡ 0 → Entered s shapes amounts f s' shapes' regions' amounts' →
-        LineRead rest s shapes regions amounts (record { fault = 0; used = n + 1; state = s' }) shapes' regions' amounts'
-    read_good s' shapes' regions' amounts' z g =
-        record {
-          fault = sym z ∙ same_fault;
-          used = ap (λ (m : ℕ). m + 1) e;
-          good = λ t. rw (← same_form) g;
-          bad = λ b. absurd (b refl);
-        }
-
--- ---- what was read, and what is left from a place
-
-pub record ReadSoFar (file : List ℕ) (s : State) (shapes regions amounts : List ℕ) (line at : ℕ) : Type 0 where
+pub record ReadSoFar (file : List ℕ) (s : State) (shapes regions amounts : List ℕ) (line : ℕ) (rest : List ℕ) : Type 0 where
   pub held : Held s shapes regions amounts
-  pub within : at ≤ length file
-  pub lines : line ≤ at + 1
-  pub whole : read_lines unit_limits before_head 1 (pieces file) ≡ read_lines unit_limits (standing s shapes amounts) line (pieces (drop at file))
+  -- there are no more lines than bytes
+  pub lines : line + length rest ≤ length file + 1
+  pub whole : read_lines unit_limits before_head 1 (pieces file) ≡ read_lines unit_limits (standing s shapes amounts) line (pieces rest)
 
 pub read_so_far_start : (file shapes regions amounts : List ℕ) (h : Head) → Cleared shapes regions amounts → h ≡ no_head →
-    ReadSoFar file (record { turn = Before; head = h; count = 0; near = NoRow }) shapes regions amounts 1 0
+    ReadSoFar file (record { turn = Before; head = h; count = 0; near = None }) shapes regions amounts 1 file
 unfolding rects_of shapes_by table_of
 read_so_far_start file shapes regions amounts h c eh =
     rw (c.no_shapes, c.no_regions, c.no_amounts, eh)
@@ -164,52 +153,42 @@ read_so_far_start file shapes regions amounts h c eh =
         sound = sound_start;
         near = tt;
       };
-      within = omega arith;
       lines = omega arith;
       whole = refl;
     })
 
--- one good line more
-pub read_so_far_next : (file : List ℕ) (s : State) (shapes regions amounts : List ℕ) (line at : ℕ) (rest : List ℕ) (r : Step) (shapes' regions' amounts' : List ℕ) →
-    ReadSoFar file s shapes regions amounts line at → rest ≡ drop at file → LineRead rest s shapes regions amounts r shapes' regions' amounts' → r.fault ≡ 0 →
-    ReadSoFar file r.state shapes' regions' amounts' (line + 1) (at + r.used)
-read_so_far_next file s shapes regions amounts line at rest r shapes' regions' amounts' k e read z =
-    record {
-      held = (read.good z).held;
-      within = omega (arith, feed, read.used, ap length e, length-drop at file, k.within);
-      lines = omega (arith, k.lines, read.used);
-      whole =
-          k.whole ∙ ap (λ (t : List ℕ). read_lines unit_limits st line (pieces t)) (sym e) ∙ line_good unit_limits st line rest fault
-          ∙ ap₂ (λ (x : Standing) (t : List ℕ). read_lines unit_limits x (suc line) (pieces t)) (sym (read.good z).stands) left
-          ∙ ap (λ (n : ℕ). read_lines unit_limits (standing r.state shapes' amounts') n (pieces (drop (at + r.used) file))) (sym (add-one line));
-    }
-  where
-    st : Standing
-    st = standing s shapes amounts
+module _ (file : List ℕ) (s : State) (shapes regions amounts : List ℕ) (line : ℕ) (rest : List ℕ) (k : ReadSoFar file s shapes regions amounts line rest)
+    (shapes' regions' amounts' : List ℕ) where
+  st : Standing
+  st = standing s shapes amounts
 
-    fault : first_fault unit_limits (standing s shapes amounts) rest ≡ 0
-    fault = sym read.fault ∙ z
+  -- one good line more
+  pub read_so_far_next : (r : Line) → LineRead rest s shapes regions amounts (Ok r) shapes' regions' amounts' →
+      ReadSoFar file r.state shapes' regions' amounts' (line + 1) (drop r.used rest)
+  read_so_far_next r read =
+      record {
+        held = read.good.held;
+        lines = omega (arith, feed, read.used, length-drop r.used rest, k.lines);
+        whole =
+            k.whole ∙ line_good unit_limits (standing s shapes amounts) line rest (sym read.fault)
+            ∙ ap₂ (λ (x : Standing) (n : ℕ). read_lines unit_limits x (suc line) (pieces (drop n rest))) (sym read.good.stands) (sym (read.used ∙ add-one (line_length rest)))
+            ∙ ap (λ (n : ℕ). read_lines unit_limits (standing r.state shapes' amounts') n (pieces (drop r.used rest))) (sym (add-one line));
+      }
+    where
+      feed : line_length rest < length rest
+      feed = good_fed unit_limits (standing s shapes amounts) line rest (sym read.fault)
 
-    feed : line_length rest < length rest
-    feed = good_fed unit_limits (standing s shapes amounts) line rest fault
+  -- a faulty line ends the reading
+  pub read_so_far_bad : (f : Fault) → eqb (length rest) 0 ≡ false → LineRead rest s shapes regions amounts (Err f) shapes' regions' amounts' →
+      read_lines unit_limits before_head 1 (pieces file) ≡ refused (fault_number f) line
+  read_so_far_bad f h read =
+      k.whole
+      ∙ line_bad unit_limits (standing s shapes amounts) line rest (let n = eqb-false (length rest) 0 h in omega arith) (λ z. fault_some f (read.fault ∙ z))
+      ∙ ap (λ (m : ℕ). refused m line) (sym read.fault)
 
-    left : drop (suc (line_length rest)) rest ≡ drop (at + r.used) file
-    left =
-        ap (drop (suc (line_length rest))) e ∙ drop-drop (suc (line_length rest)) at file
-        ∙ ap (λ (n : ℕ). drop (at + n) file) (sym (read.used ∙ add-one (line_length rest)))
-
--- a faulty line ends the reading
-pub read_so_far_bad : (file : List ℕ) (s : State) (shapes regions amounts : List ℕ) (line at : ℕ) (rest : List ℕ) (r : Step) (shapes' regions' amounts' : List ℕ) →
-    ReadSoFar file s shapes regions amounts line at → at < length file → rest ≡ drop at file → LineRead rest s shapes regions amounts r shapes' regions' amounts' →
-    (r.fault ≡ 0 → ⊥) → job_of (record { fault = r.fault; line = line; state = s }) shapes' amounts' ≡ as_job (read_lines unit_limits before_head 1 (pieces file))
-unfolding job_of
-read_so_far_bad file s shapes regions amounts line at rest r shapes' regions' amounts' k h e read n =
-    rw (ne_eqb r.fault 0 n, job_of)
-    (ap as_job
-    (sym
-    (k.whole ∙ ap (λ (t : List ℕ). read_lines unit_limits (standing s shapes amounts) line (pieces t)) (sym e)
-    ∙ line_bad unit_limits (standing s shapes amounts) line rest (omega (arith, ap length e, length-drop at file)) (λ z. n (read.fault ∙ z))
-    ∙ ap (λ (m : ℕ). refused m line) (sym read.fault))))
+-- the part of a list from a place to its end
+pub from_place : (l : List ℕ) (n : ℕ) → take (length l - n) (drop n l) ≡ drop n l
+from_place l n = take_all (length l - n) (drop n l) (omega (arith, length-drop n l))
 
 -- ---- the tables at the end
 
@@ -221,32 +200,35 @@ filled n k l t e w h d =
 held_amounts : (h : Head) (amounts : List ℕ) → AmountsKept h amounts → amounts ≡ padded amounts_room (take (tile_count h) amounts)
 held_amounts h amounts k = filled amounts_room (tile_count h) amounts (take (tile_count h) amounts) refl k.room k.tiles k.beyond
 
--- the job where (end) was read, and where it was not
-ended : (s : State) (line : ℕ) (shapes regions amounts : List ℕ) → Held s shapes regions amounts → (t : Turn) →
-    job_of (record { fault = end_fault t; line = line; state = s }) shapes amounts ≡ as_job (at_end t line (standing s shapes amounts))
-unfolding job_of
-ended s line shapes regions amounts k Before = refl
-ended s line shapes regions amounts k Shapes = refl
-ended s line shapes regions amounts k Fills = refl
-ended s line shapes regions amounts k Done =
-    ap (λ (n : ℕ). job n shapes amounts) (sym k.shaped.counted)
-    ∙ ap₂ (job (length (shapes_in s.count shapes))) k.shaped.table (held_amounts s.head amounts k.filled)
-  where
-    job : ℕ → List ℕ → List ℕ → Job
-    job n l a = record { fault = 0; line = 0; head = s.head; count = n; shapes = l; amounts = a }
+module _ (file : List ℕ) (s : State) (shapes regions amounts : List ℕ) (line : ℕ) (rest : List ℕ) (k : ReadSoFar file s shapes regions amounts line rest)
+    (none_left : eqb (length rest) 0 ≡ true) where
+  at_last : (t : Turn) → s.turn ≡ t → read_lines unit_limits before_head 1 (pieces file) ≡ at_end t line (standing s shapes amounts)
+  unfolding pieces read_lines
+  at_last t e = k.whole ∙ ap (λ (r : List ℕ). read_lines unit_limits (standing s shapes amounts) line (pieces r)) (empty rest (eqb-true (length rest) 0 none_left)) ∙ ap (λ (t : Turn). at_end t line (standing s shapes amounts)) e
+    where
+      empty : (l : List ℕ) → length l ≡ 0 → l ≡ []
+      empty [] h = refl
+      empty (a ∷ l) h = absurd (omega arith)
 
--- the end of the file
-pub read_so_far_end : (file : List ℕ) (s : State) (shapes regions amounts : List ℕ) (line at n : ℕ) → ReadSoFar file s shapes regions amounts line at → length file ≤ at →
-    n ≡ end_fault s.turn → job_of (record { fault = n; line = line; state = s }) shapes amounts ≡ as_job (read_lines unit_limits before_head 1 (pieces file))
-unfolding pieces read_lines
-read_so_far_end file s shapes regions amounts line at n k h e =
-    ap (λ (m : ℕ). job_of (record { fault = m; line = line; state = s }) shapes amounts) e
-    ∙ ended s line shapes regions amounts k.held s.turn
-    ∙ ap as_job (sym (k.whole ∙ ap (λ (t : List ℕ). read_lines unit_limits (standing s shapes amounts) line (pieces t)) (drop_of_length-le file h)))
+  -- the end of the file, after an (end)
+  pub read_so_far_end : end_fault s.turn ≡ 0 → EndsWith (read_lines unit_limits before_head 1 (pieces file)) shapes regions amounts s
+  read_so_far_end e = go s.turn refl e
+    where
+      go : (t : Turn) → s.turn ≡ t → end_fault t ≡ 0 → EndsWith (read_lines unit_limits before_head 1 (pieces file)) shapes regions amounts s
+      go Before q e = absurd (omega arith)
+      go Shapes q e = absurd (omega arith)
+      go Fills q e = absurd (omega arith)
+      go Done q e = record { held = k.held; stands = at_last Done q }
 
--- the part of a list from a place to its end
-pub from_place : (l : List ℕ) (n : ℕ) → take (length l - n) (drop n l) ≡ drop n l
-from_place l n = take_all (length l - n) (drop n l) (omega (arith, length-drop n l))
+  -- and without
+  pub read_so_far_unended : (f : Fault) → fault_number f ≡ end_fault s.turn → read_lines unit_limits before_head 1 (pieces file) ≡ refused (fault_number f) line
+  read_so_far_unended f e = go s.turn refl e
+    where
+      go : (t : Turn) → s.turn ≡ t → fault_number f ≡ end_fault t → read_lines unit_limits before_head 1 (pieces file) ≡ refused (fault_number f) line
+      go Before q e = rw e (at_last Before q)
+      go Shapes q e = rw e (at_last Shapes q)
+      go Fills q e = rw e (at_last Fills q)
+      go Done q e = absurd (fault_some f e)
 
 -- ---- the whole file
 
@@ -258,13 +240,19 @@ pub short_enough : (m : Limits) (file : List ℕ) → length file ≤ m.bytes �
 unfolding outcome_of
 short_enough m file h = rw (le-leb (length file) m.bytes h, outcome_of)
 
-module _ (file : List ℕ) (h : length file ≤ unit_limits.bytes) (e : Ending) (shapes amounts : List ℕ)
-    (same : job_of e shapes amounts ≡ as_job (read_lines unit_limits before_head 1 (pieces file))) where
-  pub whole_bad : (j : Job) → (e.fault ≡ 0 → ⊥) → j ≡ as_job (refused e.fault e.line) → j ≡ as_job (outcome_of unit_limits file)
-  unfolding job_of
-  whole_bad j n q = q ∙ rw (ne_eqb e.fault 0 n, job_of) at same ∙ ap as_job (short_enough unit_limits file h)
+-- the job of what was read to its end
+pub whole_job : (file : List ℕ) (s : State) (shapes regions amounts : List ℕ) → length file ≤ unit_limits.bytes →
+    EndsWith (read_lines unit_limits before_head 1 (pieces file)) shapes regions amounts s →
+    IsJob (outcome_of unit_limits file) (record { head = s.head; count = s.count; shapes = shapes; amounts = amounts })
+whole_job file s shapes regions amounts h k =
+    subst (λ (o : Outcome). IsJob o (record { head = s.head; count = s.count; shapes = shapes; amounts = amounts }))
+    (sym k.stands ∙ short_enough unit_limits file h)
+    (ap (λ (n : ℕ). job n shapes amounts) (sym k.held.shaped.counted)
+    ∙ ap₂ (job (length (shapes_in s.count shapes))) k.held.shaped.table (held_amounts s.head amounts k.held.filled))
+  where
+    job : ℕ → List ℕ → List ℕ → Job
+    job n l a = record { head = s.head; count = n; shapes = l; amounts = a }
 
-  pub whole_good : e.fault ≡ 0 →
-      record { fault = 0; line = 0; head = e.state.head; count = e.state.count; shapes = shapes; amounts = amounts } ≡ as_job (outcome_of unit_limits file)
-  unfolding job_of
-  whole_good z = rw (eq-eqb e.fault 0 z, job_of) at same ∙ ap as_job (short_enough unit_limits file h)
+pub whole_refused : (file : List ℕ) (e : Refusal) → length file ≤ unit_limits.bytes → read_lines unit_limits before_head 1 (pieces file) ≡ refused_as e →
+    outcome_of unit_limits file ≡ refused_as e
+whole_refused file e h k = sym (short_enough unit_limits file h) ∙ k

@@ -1,17 +1,26 @@
 // The reader: line by line, each handed the unread part of the file.
-ghost use Rattle.std.specs.Prelude.{◌≡◌, ◌≤◌, length};
+ghost use Rattle.std.specs.Prelude.{◌≡◌, ◌≤◌, length, IfOk, IfErr};
 ghost use Rattle.spelling.specs.Text.{pieces};
 ghost use Rattle.forms.specs.Limits.{unit_limits};
+ghost use Rattle.standing.specs.Fault.{fault_code};
 ghost use Rattle.standing.specs.Faults.{before_head};
-ghost use Rattle.jobfile.specs.File.{refused, read_lines};
-ghost use Rattle.jobfile.specs.Lined.{Cleared, LineRead, end_fault, job_of, as_job};
+ghost use Rattle.jobfile.specs.File.{read_lines};
+ghost use Rattle.jobfile.specs.Lined.{Cleared, LineRead, end_fault, EndsWith, refused_as};
 ghost use Rattle.standing.specs.Held.{Held};
 
-use crate::{Ending, Job, Step};
-use faults::line_fault;
+use crate::Refusal;
+use faults::check_line;
 use lines::form_of;
 use spelling::first_line;
-use standing::{AMOUNTS_ROOM, Near, SHAPES_ROOM, State, Turn, enter, no_head};
+use standing::{Fault, State, Turn, enter, no_head};
+
+// What a good line comes to: its length with its line feed, and what stands after
+// it.
+#[derive(Clone, Copy)]
+struct Line {
+    used: usize,
+    state: State,
+}
 
 // Reads the first line of what is left of a file.
 fn read_line(
@@ -20,45 +29,27 @@ fn read_line(
     shapes: &mut [u64],
     regions: &mut [u64],
     amounts: &mut [u64],
-) -> Step
+) -> Result<Line, Fault>
     requires { Held s shapes.old regions.old amounts.old }
     ensures { LineRead rest.now s shapes.old regions.old amounts.old result shapes.new regions.new amounts.new }
 {
     let n = first_line(rest);
     if rest.len() <= n {
-        return Step {
-            fault: 2,
-            used: n + 1,
-            state: s,
-        };
+        return Err(Fault::NotSpelled);
     }
-    let used = n + 1;
     let form = form_of(&rest[..n]);
-    let fault = line_fault(s, form, shapes, regions, amounts);
-    if fault != 0 {
-        return Step {
-            fault,
-            used,
-            state: s,
-        };
-    }
+    check_line(s, form, shapes, regions, amounts)?;
     let state = enter(s, form, shapes, regions, amounts);
-    Step {
-        fault: 0,
-        used,
-        state,
-    }
+    Ok(Line { used: n + 1, state })
 }
 
-// After the last line: 12 where no (end) was read.
-fn end_fault(turn: Turn) -> u64
-    ensures { result ≡ end_fault turn }
+// After the last line: an (end) was read.
+fn check_end(turn: Turn) -> Result<(), Fault>
+    ensures { fault_code result ≡ end_fault turn }
 {
     match turn {
-        Turn::Before => 12,
-        Turn::Shapes => 12,
-        Turn::Fills => 12,
-        Turn::Done => 0,
+        Turn::Before | Turn::Shapes | Turn::Fills => Err(Fault::NoEnd),
+        Turn::Done => Ok(()),
     }
 }
 
@@ -68,50 +59,32 @@ pub(crate) fn read_lines(
     shapes: &mut [u64],
     regions: &mut [u64],
     amounts: &mut [u64],
-) -> Ending
+) -> Result<State, Refusal>
     requires file_len_bound { length file.now ≤ unit_limits.bytes }
     requires cleared { Cleared shapes.old regions.old amounts.old }
-    ensures { job_of result shapes.new amounts.new ≡ as_job (read_lines unit_limits before_head 1 (pieces file.now)) }
+    ensures end { IfOk result (EndsWith (read_lines unit_limits before_head 1 (pieces file.now)) shapes.new regions.new amounts.new) }
+    ensures refusal { IfErr result (λ e. read_lines unit_limits before_head 1 (pieces file.now) ≡ refused_as e) }
 {
     let mut s = State {
         turn: Turn::Before,
         head: no_head(),
         count: 0,
-        near: Near::NoRow,
+        near: None,
     };
-    let mut line: u64 = 1;
-    let mut at: usize = 0;
-    while at < file.len() {
-        let step = read_line(&file[at..], s, shapes, regions, amounts);
-        let fault = step.fault;
-        if fault != 0 {
-            return Ending {
-                fault,
-                line,
-                state: s,
-            };
+    let mut line = 1;
+    let mut rest = file;
+    while !rest.is_empty() {
+        match read_line(rest, s, shapes, regions, amounts) {
+            Ok(read) => {
+                s = read.state;
+                rest = &rest[read.used..];
+                line += 1;
+            }
+            Err(fault) => return Err(Refusal { fault, line }),
         }
-        s = step.state;
-        at += step.used;
-        line += 1;
     }
-    let turn = s.turn;
-    Ending {
-        fault: end_fault(turn),
-        line,
-        state: s,
-    }
-}
-
-pub(crate) fn refusal(number: u64, line: u64) -> Job
-    ensures { result ≡ as_job (refused number line) }
-{
-    Job {
-        fault: number,
-        line,
-        head: no_head(),
-        count: 0,
-        shapes: [0u64; SHAPES_ROOM],
-        amounts: [0u64; AMOUNTS_ROOM],
+    match check_end(s.turn) {
+        Ok(()) => Ok(s),
+        Err(fault) => Err(Refusal { fault, line }),
     }
 }

@@ -3,6 +3,7 @@ use Prim.Native.Nat.{ℕ, ◌+◌, ◌-◌, ◌*◌, ◌≤◌, ◌<◌}
 use mathlib.Core.Path.{◌≡◌, refl, sym, ap, ap₂, ◌∙◌, subst}
 use mathlib.Core.Bool.{true, false≢true}
 use mathlib.Core.List.{List, [], ◌∷◌, ◌++◌, map-append}
+use Rattle.std.specs.Prelude.{Some, None}
 use native.Mathlib.Nat.{mul-le-mul, lt_of_lt_of_le, le_trans}
 use native.Mathlib.Numerals.{add-one}
 use native.Mathlib.Omega.{arith}
@@ -24,7 +25,6 @@ use Rattle.forms.specs.Forms.{tiles_across, agrees, tile_count}
 use Rattle.forms.proofs.Spans.{corners}
 use Rattle.forms.proofs.Heads.{head_facts, agreement}
 use Rattle.standing.specs.declared.Near.{Near}
-use Rattle.standing.specs.declared.Near.TheVariants.{NoRow}
 use Rattle.standing.specs.declared.State.{State}
 use Rattle.standing.specs.declared.Turn.TheVariants.{Before, Shapes, Fills, Done}
 use Rattle.standing.specs.Filling.{keepout_of, keepouts}
@@ -75,10 +75,10 @@ entered s shapes regions amounts f s' shapes' regions' amounts' k e same shaped 
 
 module _ (s : State) (shapes regions amounts : List ℕ) (k : Held s shapes regions amounts) where
   on_heading : (h : Head) → line_fault unit_limits (standing s shapes amounts) (Heading h) ≡ 0 →
-      Entered s shapes amounts (Heading h) (record { turn = Shapes; head = h; count = 0; near = NoRow }) shapes regions amounts
+      Entered s shapes amounts (Heading h) (record { turn = Shapes; head = h; count = 0; near = None }) shapes regions amounts
   unfolding stands_after rects_of shapes_by table_of
   on_heading h e =
-      entered s shapes regions amounts (Heading h) (record { turn = Shapes; head = h; count = 0; near = NoRow }) shapes regions amounts k e
+      entered s shapes regions amounts (Heading h) (record { turn = Shapes; head = h; count = 0; near = None }) shapes regions amounts k e
       (ap (λ (l : List ℕ). record { turn = Shapes; head = h; shapes = []; amounts = l }) clean)
       (record { table = z.shapes_zero; counted = refl; few = lit≤ tt; room = k.shaped.room; kept = regions_none })
       (record {
@@ -149,10 +149,10 @@ module _ (s : State) (shapes regions amounts : List ℕ) (k : Held s shapes regi
     space : region_numbers * s.count + region_numbers ≤ length regions
     space = omega (arith, storable.more, k.shaped.room)
 
-    on_shape : Entered s shapes amounts (Metal m) (record { turn = Shapes; head = s.head; count = s.count + 1; near = NoRow }) (with_shape shapes s.count m) regions_with amounts
+    on_shape : Entered s shapes amounts (Metal m) (record { turn = Shapes; head = s.head; count = s.count + 1; near = None }) (with_shape shapes s.count m) regions_with amounts
     unfolding stands_after
     on_shape =
-        entered s shapes regions amounts (Metal m) (record { turn = Shapes; head = s.head; count = s.count + 1; near = NoRow }) (with_shape shapes s.count m) regions_with amounts k e
+        entered s shapes regions amounts (Metal m) (record { turn = Shapes; head = s.head; count = s.count + 1; near = None }) (with_shape shapes s.count m) regions_with amounts k e
         (ap (λ (ss : List Shape). record { turn = Shapes; head = s.head; shapes = ss; amounts = take (tile_count s.head) amounts }) more_shapes)
         (record {
           table = more_table ∙ ap shapes_table (sym more_shapes);
@@ -171,12 +171,12 @@ module _ (s : State) (shapes regions amounts : List ℕ) (k : Held s shapes regi
       no_fill_fault s.head (take (tile_count s.head) amounts) (room_of (standing s shapes amounts) i j) i j p
       (no_fault unit_limits (standing s shapes amounts) (Fill i j p) e).own
 
-  on_fill : (i j p : ℕ) (near : Near) → line_fault unit_limits (standing s shapes amounts) (Fill i j p) ≡ 0 → NearHeld s.head (take (region_numbers * s.count) regions) near →
-      Entered s shapes amounts (Fill i j p) (record { turn = Fills; head = s.head; count = s.count; near = near }) shapes regions
+  on_fill : (i j p : ℕ) (near : Near) → line_fault unit_limits (standing s shapes amounts) (Fill i j p) ≡ 0 → NearHeld s.head (take (region_numbers * s.count) regions) (Some near) →
+      Entered s shapes amounts (Fill i j p) (record { turn = Fills; head = s.head; count = s.count; near = Some near }) shapes regions
       (set amounts (tile_index (tiles_across s.head) i j) p)
   unfolding stands_after
   on_fill i j p near e served =
-      entered s shapes regions amounts (Fill i j p) (record { turn = Fills; head = s.head; count = s.count; near = near }) shapes regions
+      entered s shapes regions amounts (Fill i j p) (record { turn = Fills; head = s.head; count = s.count; near = Some near }) shapes regions
       (set amounts (tile_index (tiles_across s.head) i j) p) k e
       (ap (λ (l : List ℕ). record { turn = Fills; head = s.head; shapes = shapes_in s.count shapes; amounts = l })
       (take-set-lt (tile_count s.head) amounts (tile_index (tiles_across s.head) i j) p place))
@@ -204,7 +204,7 @@ module _ (s : State) (shapes regions amounts : List ℕ) (k : Held s shapes regi
   enter_unknown f q e = absurd (false≢true (no_fault unit_limits (standing s shapes amounts) Unknown (rw q at e)).spelled)
 
   pub enter_heading : (f : Form) (h : Head) → f ≡ Heading h → line_fault unit_limits (standing s shapes amounts) f ≡ 0 →
-      Entered s shapes amounts f (record { turn = Shapes; head = h; count = 0; near = NoRow }) shapes regions amounts
+      Entered s shapes amounts f (record { turn = Shapes; head = h; count = 0; near = None }) shapes regions amounts
   enter_heading f h q e = rw q (on_heading h (rw q at e))
 
   pub shape_space : (f : Form) (m : Shape) → f ≡ Metal m → line_fault unit_limits (standing s shapes amounts) f ≡ 0 → Storable s m shapes regions
@@ -212,7 +212,7 @@ module _ (s : State) (shapes regions amounts : List ℕ) (k : Held s shapes regi
 
   pub enter_shape : (f : Form) (m : Shape) (shapes' regions' : List ℕ) → f ≡ Metal m → line_fault unit_limits (standing s shapes amounts) f ≡ 0 →
       Stored s m shapes regions shapes' regions' →
-      Entered s shapes amounts f (record { turn = Shapes; head = s.head; count = s.count + 1; near = NoRow }) shapes' regions' amounts
+      Entered s shapes amounts f (record { turn = Shapes; head = s.head; count = s.count + 1; near = None }) shapes' regions' amounts
   enter_shape f m shapes' regions' q e new = rw (q, new.table, new.region) (on_shape m (rw q at e))
 
   module _ (f : Form) (i j p : ℕ) (q : f ≡ Fill i j p) (e : line_fault unit_limits (standing s shapes amounts) f ≡ 0) where
@@ -235,8 +235,8 @@ module _ (s : State) (shapes regions amounts : List ℕ) (k : Held s shapes regi
     fill_row_asked = (fill_regions, good.row)
 
   pub enter_fill : (f : Form) (i j p : ℕ) (amounts' : List ℕ) (near : Near) → f ≡ Fill i j p → line_fault unit_limits (standing s shapes amounts) f ≡ 0 →
-      amounts' ≡ set amounts (tile_index (tiles_across s.head) i j) p → NearHeld s.head (take (region_numbers * s.count) regions) near →
-      Entered s shapes amounts f (record { turn = Fills; head = s.head; count = s.count; near = near }) shapes regions amounts'
+      amounts' ≡ set amounts (tile_index (tiles_across s.head) i j) p → NearHeld s.head (take (region_numbers * s.count) regions) (Some near) →
+      Entered s shapes amounts f (record { turn = Fills; head = s.head; count = s.count; near = Some near }) shapes regions amounts'
   enter_fill f i j p amounts' near q e new served = rw (q, new) (on_fill i j p near (rw q at e) served)
 
   pub enter_end : (f : Form) → f ≡ End → line_fault unit_limits (standing s shapes amounts) f ≡ 0 →

@@ -7,49 +7,33 @@ use native.Mathlib.Nat.{mul-le-mul_right}
 use native.Mathlib.Omega.{arith}
 use lib.Dec.{eqb}
 use lib.ListN.{length, take}
-use borrow.Author.Tests.{eq-eqb, ne_eqb, eqb-true}
+use borrow.Author.Tests.{eqb-true}
+use Rattle.std.specs.Prelude.{Option, Some, None}
 use Rattle.geometry.specs.declared.Rect.{Rect}
 use Rattle.free.specs.declared.Part.{Part}
 use Rattle.spacing.specs.Eligible.{tile}
 use Rattle.free.specs.Free.{Serves}
-use Rattle.spacing.specs.Sizes.{region_numbers, SmallBox}
+use Rattle.spacing.specs.Sizes.{region_numbers}
 use Rattle.free.proofs.NearParts.{all_serves, serves_inside}
 use Rattle.forms.specs.declared.Head.{Head}
 use Rattle.forms.specs.Limits.{unit_limits}
 use Rattle.forms.specs.Forms.{tile_side, tiles_across, GoodHead}
 use Rattle.forms.proofs.Heads.{head_facts, tile_end}
 use Rattle.standing.specs.declared.Near.{Near}
-use Rattle.standing.specs.declared.Near.TheVariants.{NoRow, Row}
 use Rattle.standing.specs.declared.State.{State}
-use Rattle.standing.specs.Held.{TileIn, row_box, NearHeld, is_row, part_for, RegionsHeld}
-
--- ---- which part, by the tests
-
-module _ (near : Near) (row : ℕ) where
-  pub row_told : (j : ℕ) (p : Part) → near ≡ Row j p → eqb j row ≡ is_row near row
-  row_told j p e = rw e
-
-  module _ (all : ℕ) where
-    pub part_none : near ≡ NoRow → ◌≡◌ {A = Part} (record { from = 0; to = all }) (part_for near row all)
-    part_none e = rw e
-
-    pub part_kept : (j : ℕ) (p : Part) → near ≡ Row j p → j ≡ row → p ≡ part_for near row all
-    part_kept j p e h = rw (e, eq-eqb j row h, part_for)
-
-    pub part_other : (j : ℕ) (p : Part) → near ≡ Row j p → (j ≡ row → ⊥) → ◌≡◌ {A = Part} (record { from = 0; to = all }) (part_for near row all)
-    part_other j p e h = rw (e, ne_eqb j row h, part_for)
+use Rattle.standing.specs.Held.{TileIn, row_box, NearHeld, part_for, RegionsHeld}
 
 -- ---- it is enough
 
-near_serves : (h : Head) (t : List ℕ) (near : Near) (row : ℕ) → NearHeld h t near → Serves t (row_box h row) (part_for near row (length t))
-near_serves h t NoRow row k = all_serves t (row_box h row)
-near_serves h t (Row j p) row k = go (eqb j row) refl
+near_serves : (h : Head) (t : List ℕ) (near : Option Near) (row : ℕ) → NearHeld h t near → Serves t (row_box h row) (part_for near row (length t))
+near_serves h t None row k = all_serves t (row_box h row)
+near_serves h t (Some near) row k = go (eqb near.row row) refl
   where
-    go : (b : Bool) → eqb j row ≡ b → Serves t (row_box h row) (elim b [ true ↦ p | false ↦ record { from = 0; to = length t } ])
-    go true e = subst (λ (i : ℕ). Serves t (row_box h i) p) (eqb-true j row e) k
+    go : (b : Bool) → eqb near.row row ≡ b → Serves t (row_box h row) (elim b [ true ↦ near.part | false ↦ record { from = 0; to = length t } ])
+    go true e = subst (λ (i : ℕ). Serves t (row_box h i) near.part) (eqb-true near.row row e) k
     go false e = all_serves t (row_box h row)
 
-pub tile_served : (h : Head) (t : List ℕ) (near : Near) (i j all : ℕ) (b : Rect) (p : Part) → GoodHead h → TileIn h i j → NearHeld h t near → all ≡ length t →
+pub tile_served : (h : Head) (t : List ℕ) (near : Option Near) (i j all : ℕ) (b : Rect) (p : Part) → GoodHead h → TileIn h i j → NearHeld h t near → all ≡ length t →
     b ≡ tile (tile_side h) i j → p ≡ part_for near j all → Serves t b p
 tile_served h t near i j all b p g k n e f q =
     subst (λ (c : Rect). Serves t c p) (sym f)
@@ -66,16 +50,6 @@ module _ (s : State) (regions : List ℕ) (row d : ℕ) (k : RegionsHeld s regio
   pub row_end : row * d + d ≤ unit_limits.side
   row_end = rw e (omega (arith, tile_end s.head row (head_facts s.head k.head) inside))
 
-  -- what the search for it asks of the row's box
-  pub row_small : SmallBox (record { x1 = 0; y1 = row * d; x2 = s.head.size; y2 = row * d + d })
-  row_small =
-      record {
-        across = omega arith;
-        up = omega arith;
-        right = omega (arith, (head_facts s.head k.head).size_most);
-        high = omega (arith, row_end);
-      }
-
   pub row_served : (p : Part) → Serves (take (region_numbers * s.count) regions) (record { x1 = 0; y1 = row * d; x2 = s.head.size; y2 = row * d + d }) p →
-      NearHeld s.head (take (region_numbers * s.count) regions) (Row row p)
+      NearHeld s.head (take (region_numbers * s.count) regions) (Some (record { row = row; part = p }))
   row_served p q = rw e at q

@@ -1,6 +1,6 @@
 -- How the reader holds what stands: a small state by value and three lent tables; and what is always so of what stands after good lines. A buyer
 -- need not read it: no contract of the unit's public functions names it.
-use Rattle.std.specs.Prelude.{ℕ, zero, suc, ◌+◌, ◌-◌, ◌*◌, ◌≤◌, ◌<◌, ◌≡◌, Bool, true, false, List, [], ◌∷◌, ◌++◌, map, eqb, length, take, drop, set, replicate}
+use Rattle.std.specs.Prelude.{ℕ, zero, suc, ◌+◌, ◌-◌, ◌*◌, ◌≤◌, ◌<◌, ◌≡◌, true, false, List, [], ◌∷◌, ◌++◌, map, eqb, length, take, drop, set, replicate, Option, None, Some}
 use Rattle.geometry.specs.declared.Rect.{Rect}
 use Rattle.geometry.specs.Layout.{Disjoint, Layer, rects_of, with_rect}
 use Rattle.free.specs.declared.Part.{Part}
@@ -19,7 +19,6 @@ use Rattle.forms.specs.Shapes.{rectangles}
 use Rattle.forms.specs.Forms.{rect_in_range, tile_side, tiles_across, tile_count, fits_layout, GoodHead}
 use Rattle.standing.specs.declared.Turn.TheVariants.{Before, Shapes}
 use Rattle.standing.specs.declared.Near.{Near}
-use Rattle.standing.specs.declared.Near.TheVariants.{NoRow, Row}
 use Rattle.standing.specs.declared.State.{State}
 use Rattle.standing.specs.Filling.{keepout_of, keepouts}
 use Rattle.standing.specs.Faults.{Standing, before_head, room_of, stands_after}
@@ -83,20 +82,15 @@ pub record Sound (st : Standing) : Type 0 where
 abbrev pub row_box : Head → ℕ → Rect
 row_box h j = record { x1 = 0; y1 = j * tile_side h; x2 = h.size; y2 = j * tile_side h + tile_side h }
 
--- the part of a table that is at hand is enough for the tiles of its row
-abbrev pub NearHeld : Head → (table : List ℕ) → Near → Type 0
-NearHeld h table NoRow = Unit {0}
-NearHeld h table (Row j p) = Serves table (row_box h j) p
-
--- whether it is a row's
-abbrev pub is_row : Near → ℕ → Bool
-is_row NoRow row = false
-is_row (Row j p) row = eqb j row
+-- the part of a table that is at hand, if one is, is enough for the tiles of its row
+abbrev pub NearHeld : Head → (table : List ℕ) → Option Near → Type 0
+NearHeld h table None = Unit {0}
+NearHeld h table (Some near) = Serves table (row_box h near.row) near.part
 
 -- the part for a row, of a table of so many numbers
-abbrev pub part_for : Near → (row all : ℕ) → Part
-part_for NoRow row all = record { from = 0; to = all }
-part_for (Row j p) row all = elim (eqb j row) [ true ↦ p | false ↦ record { from = 0; to = all } ]
+abbrev pub part_for : Option Near → (row all : ℕ) → Part
+part_for None row all = record { from = 0; to = all }
+part_for (Some near) row all = elim (eqb near.row row) [ true ↦ near.part | false ↦ record { from = 0; to = all } ]
 
 -- the numbers of the kinds of shapes
 abbrev pub kinds_of : List Shape → List ℕ

@@ -1,3 +1,4 @@
+pub mod Fault
 pub mod Filling
 pub mod Faults
 pub mod Held

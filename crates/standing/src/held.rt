@@ -8,7 +8,7 @@ ghost use Rattle.standing.specs.Held.{kind_number, standing, Held, TileIn, Stora
 
 use crate::parts::near_row;
 use crate::rooms::CORNERS_ROOM;
-use crate::{Near, State, Turn};
+use crate::{State, Turn};
 use forms::{Form, Gap, Head, Kind, Shape, gap_for, tiles_across};
 use geometry::store_rect;
 use spacing::{Keepout, keep_out};
@@ -101,7 +101,7 @@ pub fn enter(
             turn: Turn::Shapes,
             head: h,
             count: 0,
-            near: Near::NoRow,
+            near: None,
         },
         Form::Metal(shape) => {
             store_shape(s, shape, shapes, regions);
@@ -109,7 +109,7 @@ pub fn enter(
                 turn: Turn::Shapes,
                 head,
                 count: count + 1,
-                near: Near::NoRow,
+                near: None,
             }
         }
         Form::Fill {
@@ -118,7 +118,7 @@ pub fn enter(
             amount,
         } => {
             store_amount(amounts, head, column, row, amount);
-            let near = near_row(s, regions, row);
+            let near = Some(near_row(s, regions, row));
             State {
                 turn: Turn::Fills,
                 head,

@@ -2,11 +2,13 @@
 // it.
 #![tactic(auto)]
 
+mod fault;
 mod filling;
 mod held;
 mod parts;
 mod rooms;
 
+pub use fault::Fault;
 pub use filling::plan_of;
 use forms::Head;
 use free::Part;
@@ -26,9 +28,9 @@ pub enum Turn {
 // The part of the table of regions that is enough for a row of tiles, that of the
 // last fill: most fills come row by row.
 #[derive(Clone, Copy)]
-pub enum Near {
-    NoRow,
-    Row(u64, Part),
+pub struct Near {
+    pub row: u64,
+    pub part: Part,
 }
 
 // What stands while a file is read, beside the tables.
@@ -37,5 +39,5 @@ pub struct State {
     pub turn: Turn,
     pub head: Head,
     pub count: usize,
-    pub near: Near,
+    pub near: Option<Near>,
 }

@@ -1,9 +1,9 @@
 // The part of the table of regions that is kept for a row of tiles, so that the
 // fills of a row are counted by the regions that come near it.
-ghost use Rattle.std.specs.Prelude.{◌≡◌, ◌*◌, ◌<◌, take};
+ghost use Rattle.std.specs.Prelude.{◌≡◌, ◌*◌, ◌<◌, take, Some};
 ghost use Rattle.spacing.specs.Sizes.{region_numbers};
 ghost use Rattle.forms.specs.Forms.{tiles_across};
-ghost use Rattle.standing.specs.Held.{is_row, part_for, NearHeld, RegionsHeld};
+ghost use Rattle.standing.specs.Held.{part_for, NearHeld, RegionsHeld};
 
 use crate::{Near, State};
 use forms::tile_side;
@@ -13,22 +13,12 @@ use spacing::REGION_NUMBERS;
 
 // The part of the table that is enough for the tiles of a row: the one at hand, if
 // it is that row's, else all of the table.
-pub fn part_for(near: Near, row: u64, all: usize) -> Part
+pub fn part_for(near: Option<Near>, row: u64, all: usize) -> Part
     ensures { result ≡ part_for near row all }
 {
-    let whole = Part { from: 0, to: all };
     match near {
-        Near::NoRow => whole,
-        Near::Row(j, part) => { if j == row { part } else { whole } }
-    }
-}
-
-fn is_row(near: Near, row: u64) -> bool
-    ensures { result ≡ is_row near row }
-{
-    match near {
-        Near::NoRow => false,
-        Near::Row(j, _) => j == row,
+        Some(kept) if kept.row == row => kept.part,
+        _ => Part { from: 0, to: all },
     }
 }
 
@@ -36,13 +26,14 @@ fn is_row(near: Near, row: u64) -> bool
 pub(crate) fn near_row(s: State, regions: &[u64], row: u64) -> Near
     requires regions_held { RegionsHeld s regions.now }
     requires row_bound { row < tiles_across s.head }
-    ensures { NearHeld s.head (take (region_numbers * s.count) regions.now) result }
+    ensures { NearHeld s.head (take (region_numbers * s.count) regions.now) (Some result) }
 {
-    let near = s.near;
     let head = s.head;
     let count = s.count;
-    if is_row(near, row) {
-        return near;
+    if let Some(kept) = s.near
+        && kept.row == row
+    {
+        return kept;
     }
     let end = REGION_NUMBERS * count;
     let side = tile_side(head);
@@ -54,5 +45,5 @@ pub(crate) fn near_row(s: State, regions: &[u64], row: u64) -> Near
         y2: low + side,
     };
     let part = part_near(&regions[..end], b);
-    Near::Row(row, part)
+    Near { row, part }
 }

@@ -1,11 +1,9 @@
 -- What the unit needs of a file that was read: an accepted one may be run and its tables give what stands; a refused one has a number.
 use Prim.Native.Nat.{ℕ, ◌*◌}
 use mathlib.Core.Path.{◌≡◌, refl, sym, ap, ◌∙◌, subst⁻¹}
-use mathlib.Core.List.{List, ◌++◌}
-use native.Mathlib.Nat.{zero-add}
+use mathlib.Core.List.{List}
 use native.Mathlib.Omega.{arith}
-use lib.Dec.{lit≤}
-use lib.ListN.{length, take, drop}
+use lib.ListN.{take}
 use Rattle.tiles.proofs.Loads.{tiles_few}
 use Rattle.forms.specs.Limits.{unit_limits}
 use Rattle.forms.specs.Shapes.{rectangles}
@@ -15,18 +13,18 @@ use Rattle.standing.specs.Faults.{Standing}
 use Rattle.jobfile.specs.File.{Outcome, refused, accepted, outcome_of}
 use Rattle.jobfile.specs.Acceptance.{FirstFault, faulty, unfed, unended, RefusedFile, long, lines}
 use Rattle.standing.specs.Held.{amounts_room, table_of, padded}
-use Rattle.jobfile.specs.Lined.{as_job}
+use Rattle.jobfile.specs.Lined.{job_of, IsJob}
 use Rattle.standing.proofs.Tables.{rects_of_table}
 use Rattle.standing.proofs.ShapeTables.{padded_length, table_corners, table_length}
 use Rattle.jobfile.proofs.Files.{acceptance}
 use Rattle.jobfile.proofs.Accepted.{AcceptedFacts, accepted_facts, padded_front, amount_room}
+use Rattle.arrayvec.specs.ArrayVec.{ArrayVec}
 use Rattle.answers.specs.Lines.{text_of}
+use Rattle.std.specs.Prelude.{Ok}
 use Rattle.unit.specs.Whole.{answer_of}
 use Rattle.unit.specs.Guarantee.{FilePromise}
 use Rattle.run.specs.Ready.{Ready}
 use Rattle.unit.specs.Readable.{job_answer, Readable}
-use Rattle.answers.specs.Room.{answer_room}
-use Rattle.answers.specs.Writing.{WrittenIn}
 use Rattle.unit.specs.Rendering.{Rendering}
 use Rattle.unit.proofs.Demand.{Runs, promises_kept}
 
@@ -83,7 +81,7 @@ facts_ready st f =
 amounts_front : (st : Standing) → AcceptedFacts st → take (tiles_across st.head * tiles_across st.head) (padded amounts_room st.amounts) ≡ st.amounts
 amounts_front st f = ap (λ (n : ℕ). take n (padded amounts_room st.amounts)) (sym f.sized) ∙ padded_front amounts_room st.amounts
 
-facts_readable : (st : Standing) → AcceptedFacts st → Readable (as_job (accepted st))
+facts_readable : (st : Standing) → AcceptedFacts st → Readable (job_of st)
 facts_readable st f =
     record {
       shapes = f.few;
@@ -93,7 +91,7 @@ facts_readable st f =
       ready = rw (table_corners st.shapes, amounts_front st f) (facts_ready st f);
     }
 
-facts_answer : (st : Standing) → AcceptedFacts st → job_answer (as_job (accepted st)) ≡ answer_of st
+facts_answer : (st : Standing) → AcceptedFacts st → job_answer (job_of st) ≡ answer_of st
 facts_answer st f = rw (table_corners st.shapes, amounts_front st f, rects_of_table (rectangles st.shapes))
 
 -- ---- a refused file
@@ -110,72 +108,33 @@ refused_file_positive file number line (lines h c) z = first_positive c z
 pub refused_positive : (file : List ℕ) (number line : ℕ) → outcome_of unit_limits file ≡ refused number line → number ≡ 0 → ⊥
 refused_positive file number line e = refused_file_positive file number line ((acceptance unit_limits file).refused_only_if number line e)
 
--- so a file is accepted where the number that is carried of its outcome, which is the fault's of a refused one, is 0
-pub found_accepted : (file : List ℕ) (number_of : Outcome → ℕ) → ((number line : ℕ) → number_of (refused number line) ≡ number) →
-    number_of (outcome_of unit_limits file) ≡ 0 → (st : Standing) × (outcome_of unit_limits file ≡ accepted st)
-found_accepted file number_of fault good = go (outcome_of unit_limits file) refl
-  where
-    go : (o : Outcome) → outcome_of unit_limits file ≡ o → (st : Standing) × (outcome_of unit_limits file ≡ accepted st)
-    go (accepted st) e = (st, e)
-    go (refused number line) e =
-        absurd (refused_positive file number line e (sym (fault number line) ∙ sym (ap number_of e) ∙ good))
-
 -- ---- what rendering leaves
 
-module _ (file : List ℕ) (j : Job) (is : j ≡ as_job (outcome_of unit_limits file)) where
-  pub refused_rendering : (j.fault ≡ 0 → ⊥) → (l : List ℕ) → Rendering (outcome_of unit_limits file) l l (record { fault = j.fault; line = j.line; length = 0 })
-  refused_rendering bad l = go (outcome_of unit_limits file) is
+module _ (file : List ℕ) (j : Job) (is : IsJob (outcome_of unit_limits file) j) where
+  -- a job is that of a file that was accepted
+  found : (st : Standing) × (outcome_of unit_limits file ≡ accepted st) × (j ≡ job_of st)
+  found = go (outcome_of unit_limits file) refl is
     where
-      go : (o : Outcome) → j ≡ as_job o → Rendering o l l (record { fault = j.fault; line = j.line; length = 0 })
-      go (accepted st) e = absurd (bad (ap (λ (k : Job). k.fault) e))
-      go (refused number line) e =
-          record {
-            numbers = λ i. record { fault = (e i).fault; line = (e i).line; length = 0 };
-            buffer = refl;
-            short = lit≤ tt;
-          }
+      go : (o : Outcome) → outcome_of unit_limits file ≡ o → IsJob o j → (st : Standing) × (outcome_of unit_limits file ≡ accepted st) × (j ≡ job_of st)
+      go (accepted st) e k = (st, e, k)
+      go (refused number line) e k = absurd k
 
-  fault_free : j.fault ≡ 0 → (st : Standing) × (outcome_of unit_limits file ≡ accepted st)
-  fault_free good = found_accepted file (λ o. (as_job o).fault) (λ number line. refl) (sym (ap (λ (k : Job). k.fault) is) ∙ good)
+  st : Standing
+  st = found.0
 
-  module _ (good : j.fault ≡ 0) where
-    st : Standing
-    st = (fault_free good).0
+  facts : AcceptedFacts st
+  unfolding st
+  facts = accepted_facts file st found.1
 
-    facts : AcceptedFacts st
-    unfolding st
-    facts = accepted_facts file st (fault_free good).1
+  -- the answer by the job's tables is that of what stands at the end of the file
+  pub accepted_answer : (end : Standing) × (outcome_of unit_limits file ≡ accepted end) × (job_answer j ≡ answer_of end)
+  unfolding st
+  accepted_answer = (st, found.1, ap job_answer found.2 ∙ facts_answer st facts)
 
-    job_is : j ≡ as_job (accepted st)
-    unfolding st
-    job_is = is ∙ ap as_job (fault_free good).1
+  pub accepted_readable : Readable j
+  unfolding st
+  accepted_readable = subst⁻¹ Readable found.2 (facts_readable st facts)
 
-    -- the answer by the job's tables is that of what stands at the end of the file
-    pub accepted_answer : (end : Standing) × (outcome_of unit_limits file ≡ accepted end) × (job_answer j ≡ answer_of end)
-    unfolding st
-    accepted_answer = (st, (fault_free good).1, ap job_answer job_is ∙ facts_answer st facts)
-
-    pub accepted_readable : Readable j
-    accepted_readable = subst⁻¹ Readable job_is (facts_readable st facts)
-
-    pub accepted_rendering : (l m : List ℕ) (r : ℕ) → WrittenIn answer_room l 0 (text_of (job_answer j)) m r →
-        Rendering (outcome_of unit_limits file) l m (record { fault = 0; line = 0; length = r })
-    unfolding st accepted_answer
-    accepted_rendering l m r w = subst⁻¹ (λ (o : Outcome). Rendering o l m (record { fault = 0; line = 0; length = r })) (fault_free good).1 rendered
-      where
-        text : text_of (job_answer j) ≡ text_of (answer_of st)
-        text = ap text_of accepted_answer.2
-
-        place : r ≡ length (text_of (answer_of st))
-        place = w.written.place ∙ zero-add (length (text_of (job_answer j))) ∙ ap length text
-
-        rendered : Rendering (accepted st) l m (record { fault = 0; line = 0; length = r })
-        rendered =
-            record {
-              numbers = λ i. record { fault = 0; line = 0; length = place i };
-              buffer =
-                  w.written.buffer
-                  ∙ ap (λ (k : ℕ). text_of (job_answer j) ++ drop k l) (zero-add (length (text_of (job_answer j))))
-                  ∙ ap (λ (t : List ℕ). t ++ drop (length t) l) text;
-              short = omega (arith, w.written.place, w.within);
-            }
+  pub accepted_rendering : (text : ArrayVec ℕ) → text.items ≡ text_of (job_answer j) → Rendering (outcome_of unit_limits file) (Ok text)
+  unfolding st accepted_answer
+  accepted_rendering text e = subst⁻¹ (λ (o : Outcome). Rendering o (Ok text)) found.1 (e ∙ ap text_of accepted_answer.2)

@@ -17,8 +17,7 @@ use Rattle.jobfile.specs.File.{accepted, outcome_of}
 use Rattle.jobfile.specs.Acceptance.{AcceptedFile, Acceptance}
 use Rattle.jobfile.specs.Gaps.{file_with, MayBegin, SameGaps}
 use Rattle.jobfile.specs.SquareCorners.{AcceptedBefore}
-use Rattle.unit.specs.declared.Reply.{Reply}
-use Rattle.unit.specs.Whole.{answer_of, reply_to, buffer_after, reply_for, buffer_for, reply_number, reply_value, printed_of, printed_for}
+use Rattle.unit.specs.Whole.{answer_of, Reply, reply_to, buffer_after, reply_for, buffer_for, reply_number, reply_value, printed_of, printed_for}
 use Rattle.answers.specs.Room.{answer_room}
 use Rattle.unit.specs.Promise.{Promises}
 

@@ -1,15 +1,15 @@
 -- The whole unit: from a file's bytes and the lent buffer to the reply and the buffer afterwards.
-use Rattle.std.specs.Prelude.{ℕ, ◌+◌, ◌*◌, true, false, List, [], ◌∷◌, leb, length}
+use Rattle.std.specs.Prelude.{ℕ, ◌+◌, ◌*◌, true, false, List, [], ◌∷◌, leb, length, Result, Ok, Err}
 use Rattle.buffers.specs.Written.{at_front}
 use Rattle.spelling.specs.Text.{bytes}
 use Rattle.spelling.specs.Pattern.{spell}
 use Rattle.forms.specs.Shapes.{rectangles}
 use Rattle.forms.specs.Limits.{unit_limits}
+use Rattle.standing.specs.Fault.{fault_number}
 use Rattle.standing.specs.Faults.{Standing}
 use Rattle.answers.specs.declared.Answer.{Answer}
 use Rattle.jobfile.specs.File.{Outcome, refused, accepted, outcome_of}
-use Rattle.unit.specs.declared.Reply.{Reply}
-use Rattle.unit.specs.declared.Reply.TheVariants.{Accepted, Refused}
+use Rattle.jobfile.specs.declared.Refusal.{Refusal}
 use Rattle.answers.specs.Lines.{text_of}
 use Rattle.run.specs.Answering.{answer_for}
 
@@ -17,6 +17,15 @@ use Rattle.run.specs.Answering.{answer_for}
 -- on fault 11, and on where a placement may lie
 abbrev pub answer_of : Standing → Answer
 answer_of st = answer_for st.head (rectangles st.shapes) st.amounts
+
+-- what the unit replies: the answer's length, or the number and line of the fault that the job was refused for; and how the code tells it
+pub data Reply : Type 0 where
+  Accepted : (length : ℕ) → Reply
+  Refused : (number line : ℕ) → Reply
+
+abbrev pub reply_of : Result ℕ Refusal → Reply
+reply_of (Ok n) = Accepted n
+reply_of (Err e) = Refused (fault_number e.fault) e.line
 
 -- the reply to an outcome and a buffer of `room` bytes; 13: the buffer is shorter than the answer
 abbrev pub reply_to : Outcome → ℕ → Reply

@@ -1,19 +1,9 @@
 use mathlib.Core.Path.{◌∙◌}
+use Rattle.free.proofs.NearParts.{serves_free}
 use Rattle.free.proofs.RegionTables.{regions_fillable}
-use Rattle.free.proofs.Settling.{empty_free, whole_free}
 use Rattle.free.proofs.fillable.Goals as goal
-
-pub returns-then-is_empty : goal.returns-then-is_empty
-returns-then-is_empty c =
-    let free = empty_free c.args.regions.now c.args.b _ c.is_empty.ensures c.if-is_empty.true in
-    record { free = free; eligible = λ ks e. free ∙ regions_fillable _ ks _ e }
-
-pub returns-then-is_empty-2 : goal.returns-then-is_empty-2
-returns-then-is_empty-2 c =
-    let free = whole_free c.args.regions.now _ c.is_empty-2.ensures c.if-is_empty-2.true c.args.b _ c.box_size.ensures in
-    record { free = free; eligible = λ ks e. free ∙ regions_fillable _ ks _ e }
 
 pub returns : goal.returns
 returns c =
-    let free = rw (c.as_slice.ensures.value, c.all_places-places.ensures.each) at c.free_by.ensures in
+    let free = c.squares_outside.ensures ∙ serves_free _ _ c.args.near c.requires.serves in
     record { free = free; eligible = λ ks e. free ∙ regions_fillable _ ks _ e }

@@ -7,8 +7,8 @@ store_amount-requires c =
     let both = fill_space c.args.s c.args.shapes.now c.args.regions.now c.args.amounts.now c.requires.held c.args.f _ _ _
     c.in-Fill.is c.requires.f_value in record { tile_in = both.0; j_in_bounds = both.1 }
 
-pub near_row-near-requires : goal.near_row-near-requires
-near_row-near-requires c =
+pub near_row-requires : goal.near_row-requires
+near_row-requires c =
     let both = fill_row_asked c.args.s c.args.shapes.now c.args.regions.now c.args.amounts.now c.requires.held c.args.f _ _ _
     c.in-Fill.is c.requires.f_value in record { regions_held = both.0; row_bound = both.1 }
 
