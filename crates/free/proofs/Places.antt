@@ -106,16 +106,6 @@ pub record KeptSoFar (l : Left) (lead : ℕ) (c : Region) (own : List ℕ) (i : 
   pub led : Contains (take i l.places.now) lead → HoldsIn l.bounds (holds_square c) (held_by (at_places l.regions.now own))
   pub divisible : 0 < length own → Divisible l.bounds
 
-pub keeping_starts : (l : Left) (lead : ℕ) (c : Region) → KeptSoFar l lead c [] 0
-keeping_starts l lead c =
-    record {
-      few = omega arith;
-      listed = λ i d q. absurd (omega arith);
-      same = λ x y p q r s. refl;
-      led = λ h. absurd (omega (arith, h.1));
-      divisible = λ q. absurd (omega arith);
-    }
-
 module _ (l : Left) (lead : ℕ) (c : Region) (own : List ℕ) (i : ℕ) (z : KeptSoFar l lead c own i) (there : At l.regions.now lead c) where
   abbrev t : List Region
   t = l.regions.now
