@@ -4,12 +4,11 @@ use mathlib.Core.Path.{◌≡◌, refl, sym, ap, ap₂, ◌∙◌}
 use mathlib.Core.List.{List, [], ◌∷◌, ◌++◌, append_assoc, map-append}
 use native.Mathlib.Nat.{zero-add, suc-add}
 use native.Mathlib.Omega.{arith}
-use lib.ListN.{length, take, drop, set, length-append, length-map, length-replicate}
-use lib.Seq.{take_at, drop_at, drop-drop}
+use lib.ListN.{length, take, drop, set, replicate, length-append, length-map, length-replicate}
+use lib.Seq.{take_at, drop_at, drop-drop, set-append_seam}
 use Rattle.geometry.specs.declared.Rect.{Rect}
 use Rattle.geometry.specs.Layout.{rects_of, with_rect}
 use Rattle.geometry.proofs.Tables.{four_of, stored_split}
-use Rattle.spelling.proofs.Progress.{filled_more}
 use Rattle.forms.specs.declared.Kind.{Kind}
 use Rattle.forms.specs.declared.Kind.TheVariants.{Drawn, Dummy}
 use Rattle.forms.specs.declared.Shape.{Shape}
@@ -41,6 +40,20 @@ by_kinds (s ∷ ss) behind =
     ap₂ (λ (k : Kind) (l : List Shape). record { kind = k; rect = s.rect } ∷ l) (kind_back s.kind) (by_kinds ss behind)
 
 -- ---- the table of shapes
+
+-- the next free cell of a table takes a number
+filled_more : (room : ℕ) (ns : List ℕ) (v : ℕ) → length ns < room →
+    set (ns ++ replicate (room - length ns) 0) (length ns) v ≡ (ns ++ (v ∷ [])) ++ replicate (room - length (ns ++ (v ∷ []))) 0
+filled_more room ns v h =
+    rw (one_less)
+    (set-append_seam ns 0 (replicate (room - suc (length ns)) 0) v ∙ sym (append_assoc ns (v ∷ []) (replicate (room - suc (length ns)) 0))
+    ∙ ap (λ (n : ℕ). (ns ++ (v ∷ [])) ++ replicate n 0) rest)
+  where
+    one_less : room - length ns ≡ suc (room - suc (length ns))
+    one_less = omega arith
+
+    rest : room - suc (length ns) ≡ room - length (ns ++ (v ∷ []))
+    rest = omega (arith, length-append ns (v ∷ []))
 
 pub padded_length : (n : ℕ) (s : List ℕ) → length s ≤ n → length (padded n s) ≡ n
 padded_length n s h = omega (arith, length-append s (zeros (n - length s)), length-replicate {A = ℕ} (n - length s) 0)

@@ -1,10 +1,9 @@
 -- What the unit needs of a file that was read: an accepted one may be run and its tables give what stands; a refused one has a number.
 use Prim.Native.Nat.{ℕ, ◌*◌}
 use mathlib.Core.Path.{◌≡◌, refl, sym, ap, ◌∙◌, subst⁻¹}
-use mathlib.Core.List.{List, ◌++◌}
-use native.Mathlib.Nat.{zero-add}
+use mathlib.Core.List.{List}
 use native.Mathlib.Omega.{arith}
-use lib.ListN.{length, take, drop}
+use lib.ListN.{take}
 use Rattle.tiles.proofs.Loads.{tiles_few}
 use Rattle.forms.specs.Limits.{unit_limits}
 use Rattle.forms.specs.Shapes.{rectangles}
@@ -19,14 +18,13 @@ use Rattle.standing.proofs.Tables.{rects_of_table}
 use Rattle.standing.proofs.ShapeTables.{padded_length, table_corners, table_length}
 use Rattle.jobfile.proofs.Files.{acceptance}
 use Rattle.jobfile.proofs.Accepted.{AcceptedFacts, accepted_facts, padded_front, amount_room}
+use Rattle.arrayvec.specs.ArrayVec.{ArrayVec}
 use Rattle.answers.specs.Lines.{text_of}
 use Rattle.std.specs.Prelude.{Ok}
-use Rattle.unit.specs.Whole.{answer_of, Accepted}
+use Rattle.unit.specs.Whole.{answer_of}
 use Rattle.unit.specs.Guarantee.{FilePromise}
 use Rattle.run.specs.Ready.{Ready}
 use Rattle.unit.specs.Readable.{job_answer, Readable}
-use Rattle.answers.specs.Room.{answer_room}
-use Rattle.answers.specs.Writing.{WrittenIn}
 use Rattle.unit.specs.Rendering.{Rendering}
 use Rattle.unit.proofs.Demand.{Runs, promises_kept}
 
@@ -137,23 +135,6 @@ module _ (file : List ℕ) (j : Job) (is : IsJob (outcome_of unit_limits file) j
   unfolding st
   accepted_readable = subst⁻¹ Readable found.2 (facts_readable st facts)
 
-  pub accepted_rendering : (l m : List ℕ) (r : ℕ) → WrittenIn answer_room l 0 (text_of (job_answer j)) m r → Rendering (outcome_of unit_limits file) l m (Ok r)
+  pub accepted_rendering : (text : ArrayVec ℕ) → text.items ≡ text_of (job_answer j) → Rendering (outcome_of unit_limits file) (Ok text)
   unfolding st accepted_answer
-  accepted_rendering l m r w = subst⁻¹ (λ (o : Outcome). Rendering o l m (Ok r)) found.1 done
-    where
-      text : text_of (job_answer j) ≡ text_of (answer_of st)
-      text = ap text_of accepted_answer.2
-
-      place : r ≡ length (text_of (answer_of st))
-      place = w.written.place ∙ zero-add (length (text_of (job_answer j))) ∙ ap length text
-
-      done : Rendering (accepted st) l m (Ok r)
-      done =
-          record {
-            reply = ap Accepted place;
-            buffer =
-                w.written.buffer
-                ∙ ap (λ (k : ℕ). text_of (job_answer j) ++ drop k l) (zero-add (length (text_of (job_answer j))))
-                ∙ ap (λ (t : List ℕ). t ++ drop (length t) l) text;
-            short = omega (arith, w.written.place, w.within);
-          }
+  accepted_rendering text e = subst⁻¹ (λ (o : Outcome). Rendering o (Ok text)) found.1 (e ∙ ap text_of accepted_answer.2)

@@ -2,8 +2,8 @@
 use Rattle.unit.proofs.Accepting.{accepted_readable, accepted_rendering}
 use Rattle.unit.proofs.render.render.Goals as goal
 
-pub render_job-requires-clause-readable : goal.render_job-requires-clause-readable
-render_job-requires-clause-readable c = accepted_readable c.args.file.now _ c.in_ok-job.ensures.job
+pub render_job-requires : goal.render_job-requires
+render_job-requires c = accepted_readable c.args.file.now _ c.in_ok-job.ensures.job
 
 pub returns : goal.returns
-returns c = accepted_rendering c.args.file.now _ c.in_ok-job.ensures.job _ _ _ c.render_job.ensures
+returns c = accepted_rendering c.args.file.now _ c.in_ok-job.ensures.job _ c.render_job.ensures
