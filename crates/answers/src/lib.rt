@@ -1,4 +1,5 @@
-// What a job is answered, and its six lines, written by pattern.
+// What a job is answered, and its six lines, written by pattern: the contracts fix
+// each byte, of which those of a Display would say nothing.
 #![tactic(auto, unfolding(spelling::specs::Text::bytes))]
 
 ghost use Rattle.std.specs.Prelude.{◌≡◌, ◌+◌, ◌*◌, ◌≤◌, ◌++◌, length};

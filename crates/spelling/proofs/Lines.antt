@@ -31,15 +31,6 @@ module _ (b : ℕ) (s : List ℕ) where
   unfolding pieces
   pieces_goes_on e = rw (e, pieces)
 
-pub line_within : (s : List ℕ) → line_length s ≤ length s
-unfolding line_length
-line_within [] = omega arith
-line_within (b ∷ s) = go (eqb b 10) refl (line_within s)
-  where
-    go : (x : Bool) → eqb b 10 ≡ x → line_length s ≤ length s → line_length (b ∷ s) ≤ length (b ∷ s)
-    go true e h = omega (arith, line_ends b s e)
-    go false e h = omega (arith, line_goes_on b s e)
-
 -- the first piece is the first line, and the others are the pieces of what follows its line feed
 pub pieces_line : (s : List ℕ) → line_length s < length s → pieces s ≡ take (line_length s) s ∷ pieces (drop (suc (line_length s)) s)
 pieces_line [] h = absurd (omega arith)

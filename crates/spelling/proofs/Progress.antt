@@ -8,7 +8,7 @@ use native.Mathlib.Omega.{arith}
 use borrow.Author.Tests.{eq-eqb, ne_eqb}
 use lib.Dec.{eqb}
 use lib.Pointwise.{pointwise}
-use lib.ListN.{length, get_or, set, take, drop, replicate, length-set, length-replicate, drop_of_length-le}
+use lib.ListN.{length, get_or, set, take, drop, length-set, drop_of_length-le}
 use lib.Seq.{drop-cons, take-suc-set}
 use Rattle.std.proofs.Common.{Option, Some, None, option_map, take_all}
 use Rattle.std.proofs.lemmas.List.{nil_from_length}
@@ -26,13 +26,6 @@ pub record ReadTo (most : ℕ) (p s table : List ℕ) (count j : ℕ) (rest : Li
   pub room : length table ≡ places p
   pub left : count + places (drop j p) ≡ places p
   pub whole : read_as most p s ≡ prefixed (take count table) (read_as most (drop j p) rest)
-
-pub read_start : (most : ℕ) (p s : List ℕ) (n : ℕ) → places p ≡ n → ReadTo most p s (replicate n 0) 0 0 s
-read_start most p s n e = record { room = length-replicate n 0 ∙ sym e; left = omega arith; whole = go (read_as most p s) }
-  where
-    go : (o : Option (List ℕ)) → o ≡ prefixed [] o
-    go None = refl
-    go (Some ms) = refl
 
 prefixed_more : (ns : List ℕ) (v : ℕ) (o : Option (List ℕ)) → prefixed ns (with_number v o) ≡ prefixed (ns ++ (v ∷ [])) o
 prefixed_more ns v None = refl

@@ -45,7 +45,7 @@ fn is_spelling(digits: &[u8]) -> bool
 }
 
 // The number that digits stand for.
-#[tactic(auto, using(crate::proofs::Digits::digit_at, crate::proofs::Digits::value_more, crate::proofs::Digits::value_all, crate::proofs::Digits::value_small, crate::proofs::Digits::value_fits))]
+#[tactic(auto, using(crate::proofs::Digits::digit_at, crate::proofs::Digits::value_all))]
 fn value_of(digits: &[u8]) -> u64
     requires are_digits { digits_of digits.now ≡ digits.now }
     requires few { length digits.now ≤ digits_room }
