@@ -8,14 +8,15 @@ ghost use Rattle.jobfile.specs.File.{outcome_of};
 ghost use Rattle.extremes.specs.Exact.{extreme_in};
 ghost use Rattle.run.specs.Answering.{answer_for, quick_in};
 ghost use Rattle.run.specs.Ready.{Ready};
-ghost use Rattle.unit.specs.Readable.{Readable, job_answer};
+ghost use Rattle.unit.specs.Readable.{Readable};
+ghost use Rattle.unit.specs.Whole.{answer_of};
 ghost use Rattle.phases.specs.Phase.{verdict_number, phase_number, phase_of};
 
 use extremes::Extremes;
 use fill::Verdict;
 use forms::Head;
 use geometry::{Rect, Sense, Spot};
-use jobfile::Job;
+use standing::Standing;
 use sweep::Sorted;
 use zoom::Asked;
 
@@ -111,16 +112,11 @@ fn phase_number(phase: u64, head: Head, rects: &[Rect], amounts: &[u64]) -> u64
     sorted_phase(phase, head, &Sorted::of(rects), amounts)
 }
 
-fn job_phase(phase: u64, job: Job) -> u64
-    requires { Readable job }
-    ensures { result ≡ phase_number phase (job_answer job) }
+fn job_phase(phase: u64, job: &Standing) -> u64
+    requires { Readable job.now }
+    ensures { result ≡ phase_number phase (answer_of job.now) }
 {
-    let head = job.head;
-    let shapes = job.shapes;
-    let amounts = job.amounts;
-    let numbers = 4 * job.count;
-    let tiles = forms::tile_count(head);
-    phase_number(phase, head, &shapes[..numbers], &amounts[..tiles])
+    phase_number(phase, job.head(), job.rects(), job.amounts())
 }
 
 // Reads a file, and runs one phase of an accepted one: 1 the exact run, 2 and 3
@@ -130,7 +126,7 @@ pub fn density_phase(file: &[u8], phase: u64) -> u64
     ensures { result ≡ phase_of phase (outcome_of unit_limits file.now) }
 {
     match jobfile::read(file) {
-        Ok(job) => job_phase(phase, job),
+        Ok(job) => job_phase(phase, &job),
         Err(_) => 0,
     }
 }
