@@ -1,7 +1,7 @@
 -- The regions of a table by their places, and the places that are kept for a box.
 use Prim.Native.Nat.{ℕ, zero, suc, ◌+◌, ◌≤◌, ◌<◌}
 use mathlib.Core.Path.{◌≡◌, refl, sym, ap, ◌∙◌}
-use mathlib.Core.Bool.{Bool, true, false, not, ◌||◌, or-false, or-true}
+use mathlib.Core.Bool.{Bool, true, false, false≢true, not, ◌||◌, or-false, or-true}
 use mathlib.Core.List.{List, [], ◌∷◌, ◌++◌}
 use mathlib.Core.Logic.{◌⊎◌, inl, inr}
 use native.Mathlib.Numerals.{add-one}
@@ -16,7 +16,6 @@ use Rattle.std.proofs.lemmas.Option.{slice_get-get_or}
 use Rattle.std.proofs.lemmas.List.Elements.{filter_map-append, Contains-get_or, Contains-append_cases}
 use Rattle.laws.proofs.Tests.{both, true_false}
 use Rattle.geometry.specs.declared.Rect.{Rect}
-use Rattle.geometry.specs.Cuts.{FullBox}
 use Rattle.geometry.specs.Places.{Listed}
 use Rattle.geometry.proofs.Listing.{listed_more}
 use Rattle.spacing.specs.declared.region.Region.{Region}
@@ -78,6 +77,10 @@ covered_by t ps i r b h e f x y p q u s = held_in t ps (get_or ps i 0) r x y (Co
 
 -- ---- the places that are kept for a box
 
+-- of the squares of a box, what the one test holds the other holds
+abbrev HoldsIn : Rect → (f g : ℕ → ℕ → Bool) → Type 0
+HoldsIn b f g = (x y : ℕ) → b.x1 ≤ x → x < b.x2 → b.y1 ≤ y → y < b.y2 → f x y ≡ true → g x y ≡ true
+
 or_absorbs : (a l : Bool) → (l ≡ true → a ≡ true) → (a || l) ≡ a
 or_absorbs a false h = or-false a
 or_absorbs a true h = or-true a ∙ sym (h refl)
@@ -95,16 +98,16 @@ or_last false false l = or-false l
 
 -- the first i places are looked at. What is made idle by the region c at place `lead` is left out, so this one counts along; once it was looked at,
 -- the list holds what it holds
-pub record KeptSoFar (t : List Region) (ps : List ℕ) (lead : ℕ) (c : Region) (b : Rect) (own : List ℕ) (i : ℕ) : Type 0 where
+pub record KeptSoFar (l : Left) (lead : ℕ) (c : Region) (own : List ℕ) (i : ℕ) : Type 0 where
   pub few : length own ≤ i
-  pub listed : Listed t own
-  pub same : AgreeOn b (λ x y. held_by (at_places t own) x y || holds_square c x y) (λ x y. held_by (at_places t (take i ps)) x y || holds_square c x y)
-  pub led : Contains (take i ps) lead → (x y : ℕ) → b.x1 ≤ x → x < b.x2 → b.y1 ≤ y → y < b.y2 → holds_square c x y ≡ true →
-      held_by (at_places t own) x y ≡ true
-  pub divisible : 0 < length own → Divisible b
+  pub listed : Listed l.regions.now own
+  pub same : AgreeOn l.bounds (λ x y. held_by (at_places l.regions.now own) x y || holds_square c x y)
+      (λ x y. held_by (at_places l.regions.now (take i l.places.now)) x y || holds_square c x y)
+  pub led : Contains (take i l.places.now) lead → HoldsIn l.bounds (holds_square c) (held_by (at_places l.regions.now own))
+  pub divisible : 0 < length own → Divisible l.bounds
 
-pub keeping_starts : (t : List Region) (ps : List ℕ) (lead : ℕ) (c : Region) (b : Rect) → KeptSoFar t ps lead c b [] 0
-keeping_starts t ps lead c b =
+pub keeping_starts : (l : Left) (lead : ℕ) (c : Region) → KeptSoFar l lead c [] 0
+keeping_starts l lead c =
     record {
       few = omega arith;
       listed = λ i d q. absurd (omega arith);
@@ -113,18 +116,26 @@ keeping_starts t ps lead c b =
       divisible = λ q. absurd (omega arith);
     }
 
-module _ (t : List Region) (ps : List ℕ) (lead : ℕ) (c : Region) (b : Rect) (own : List ℕ) (i : ℕ) (z : KeptSoFar t ps lead c b own i) (there : At t lead c) where
-  pub keeping_ends : (l : Left) → l.regions.now ≡ t → l.places.now ≡ ps → Contains ps lead → i ≡ length ps → Enough l b own
-  keeping_ends l et ep h e =
+module _ (l : Left) (lead : ℕ) (c : Region) (own : List ℕ) (i : ℕ) (z : KeptSoFar l lead c own i) (there : At l.regions.now lead c) where
+  abbrev t : List Region
+  t = l.regions.now
+
+  abbrev ps : List ℕ
+  ps = l.places.now
+
+  abbrev b : Rect
+  b = l.bounds
+
+  pub keeping_ends : Contains ps lead → i ≡ length ps → Enough l own
+  keeping_ends h e =
       record {
-        few = omega (arith, z.few, e, ap length ep);
-        listed = rw et z.listed;
+        few = omega (arith, z.few, e);
+        listed = z.listed;
         same = λ x y p q r s.
-            rw (et, ep)
-            (sym (or_absorbs (held_by (at_places t own) x y) (holds_square c x y) (z.led (rw all h) x y p q r s))
+            sym (or_absorbs (held_by (at_places t own) x y) (holds_square c x y) (z.led (rw all h) x y p q r s))
             ∙ z.same x y p q r s
             ∙ ap (λ (qs : List ℕ). held_by (at_places t qs) x y || holds_square c x y) all
-            ∙ or_absorbs (held_by (at_places t ps) x y) (holds_square c x y) (held_in t ps lead c x y h there));
+            ∙ or_absorbs (held_by (at_places t ps) x y) (holds_square c x y) (held_in t ps lead c x y h there);
         divisible = z.divisible;
       }
     where
@@ -160,8 +171,7 @@ module _ (t : List Region) (ps : List ℕ) (lead : ℕ) (c : Region) (b : Rect) 
         go (inr k') = inr (only k'.0 k'.1 k'.2)
 
     -- the region here is passed over: it holds nothing of the box that the lead does not
-    passed : ((x y : ℕ) → b.x1 ≤ x → x < b.x2 → b.y1 ≤ y → y < b.y2 → holds_square r x y ≡ true → holds_square c x y ≡ true) →
-        (lead ≡ p → (x y : ℕ) → b.x1 ≤ x → x < b.x2 → b.y1 ≤ y → y < b.y2 → holds_square c x y ≡ true → ⊥) → KeptSoFar t ps lead c b own (i + 1)
+    passed : HoldsIn b (holds_square r) (holds_square c) → (lead ≡ p → HoldsIn b (holds_square c) (λ x y. false)) → KeptSoFar l lead c own (i + 1)
     passed implied unled =
         record {
           few = omega (arith, z.few);
@@ -170,35 +180,34 @@ module _ (t : List Region) (ps : List ℕ) (lead : ℕ) (c : Region) (b : Rect) 
               z.same x y p' q s u
               ∙ or_drops (held_by (at_places t (take i ps)) x y) (holds_square r x y) (holds_square c x y) (implied x y p' q s u)
               ∙ ap (λ (v : Bool). v || holds_square c x y) (sym (held_seen x y));
-          led = λ k x y p' q s u e. go (led_here k) x y p' q s u e;
+          led = λ k. go (led_here k);
           divisible = z.divisible;
         }
       where
-        go : Contains (take i ps) lead ⊎ (lead ≡ p) → (x y : ℕ) → b.x1 ≤ x → x < b.x2 → b.y1 ≤ y → y < b.y2 → holds_square c x y ≡ true →
-            held_by (at_places t own) x y ≡ true
+        go : Contains (take i ps) lead ⊎ (lead ≡ p) → HoldsIn b (holds_square c) (held_by (at_places t own))
         go (inl k) x y p' q s u e = z.led k x y p' q s u e
-        go (inr k) x y p' q s u e = absurd (unled k x y p' q s u e)
+        go (inr k) x y p' q s u e = absurd (false≢true (unled k x y p' q s u e))
 
-    pub keeping_far : is_near r b ≡ false → KeptSoFar t ps lead c b own (i + 1)
+    pub keeping_far : is_near r b ≡ false → KeptSoFar l lead c own (i + 1)
     keeping_far e =
         passed (λ x y p' q s u k. absurd (true_false (holds_square r x y) k (none_held r b e x y p' q s u)))
-        (λ m x y p' q s u k. true_false (holds_square c x y) k (ap (λ (g : Region). holds_square g x y) (sym (same m)) ∙ none_held r b e x y p' q s u))
+        (λ m x y p' q s u k. sym (none_held r b e x y p' q s u) ∙ ap (λ (g : Region). holds_square g x y) (same m) ∙ k)
       where
         same : lead ≡ p → r ≡ c
         same m = at_same t p r c here (rw m at there)
 
-    pub keeping_spare : FullBox b → is_spare p lead r c b ≡ true → KeptSoFar t ps lead c b own (i + 1)
-    keeping_spare w e =
-        passed (idle_held r c b w tests.1) (λ m x y p' q s u k. true_false (eqb p lead) (eq-eqb p lead (sym m)) (not-true (eqb p lead) tests.0))
+    pub keeping_spare : is_spare p lead r c b ≡ true → KeptSoFar l lead c own (i + 1)
+    keeping_spare e =
+        passed (idle_held r c b l.full tests.1) (λ m. absurd (true_false (eqb p lead) (eq-eqb p lead (sym m)) (not-true (eqb p lead) tests.0)))
       where
         tests : (not (eqb p lead) ≡ true) × (is_idle r c b ≡ true)
         tests = both (not (eqb p lead)) (is_idle r c b) e
 
-    pub keeping_one : FullBox b → p < length t → is_near r b ≡ true → covers_box r b ≡ false → KeptSoFar t ps lead c b (own ++ (p ∷ [])) (i + 1)
-    keeping_one w l e f =
+    pub keeping_one : is_near r b ≡ true → covers_box r b ≡ false → KeptSoFar l lead c (own ++ (p ∷ [])) (i + 1)
+    keeping_one e f =
         record {
           few = omega (arith, length-append own (p ∷ []), z.few);
-          listed = listed_more t own p z.listed l;
+          listed = listed_more t own p z.listed (l.listed i 0 h);
           same = λ x y p' q s u.
               ap (λ (v : Bool). v || holds_square c x y) (held_more own x y)
               ∙ sym (or_last (held_by (at_places t own) x y) (holds_square r x y) (holds_square c x y))
@@ -206,11 +215,10 @@ module _ (t : List Region) (ps : List ℕ) (lead : ℕ) (c : Region) (b : Rect) 
               ∙ or_last (held_by (at_places t (take i ps)) x y) (holds_square r x y) (holds_square c x y)
               ∙ ap (λ (v : Bool). v || holds_square c x y) (sym (held_seen x y));
           led = λ k x y p' q s u o. held_more own x y ∙ go (led_here k) x y p' q s u o;
-          divisible = λ k. some_held r b w.across w.up e f;
+          divisible = λ k. some_held r b l.full.across l.full.up e f;
         }
       where
-        go : Contains (take i ps) lead ⊎ (lead ≡ p) → (x y : ℕ) → b.x1 ≤ x → x < b.x2 → b.y1 ≤ y → y < b.y2 → holds_square c x y ≡ true →
-            (held_by (at_places t own) x y || holds_square r x y) ≡ true
+        go : Contains (take i ps) lead ⊎ (lead ≡ p) → HoldsIn b (holds_square c) (λ x y. held_by (at_places t own) x y || holds_square r x y)
         go (inl k) x y p' q s u o = ap (λ (v : Bool). v || holds_square r x y) (z.led k x y p' q s u o)
         go (inr k) x y p' q s u o =
             ap (λ (v : Bool). held_by (at_places t own) x y || v) (ap (λ (g : Region). holds_square g x y) (at_same t p r c here (rw k at there)) ∙ o)

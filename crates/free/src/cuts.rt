@@ -67,41 +67,37 @@ fn choose(b: Rect, l: Lines) -> Cut
 
 impl<'a> Left<'a> {
     // The lines nearest the middle among the straight edges of all regions left.
-    fn edges(self, b: Rect) -> Lines
-        requires { FullBox b }
-        ensures { InBox b result }
+    fn edges(self) -> Lines
+        ensures { InBox self.entry.bounds result }
     {
         let mut lines = Lines {
-            column: b.x1,
-            row: b.y1,
+            column: self.bounds.x1,
+            row: self.bounds.y1,
         };
         for &place in self.places {
-            let r = self.region(place);
-            lines = offer(lines, b, r.outline());
+            lines = offer(lines, self.bounds, self.region(place).outline());
         }
         lines
     }
 
     // The same with the sides of the core, where one region is left: they part its
     // corners from its edges.
-    fn lines_for(self, b: Rect) -> Lines
-        requires { FullBox b }
-        ensures { InBox b result }
+    fn lines(self) -> Lines
+        ensures { InBox self.entry.bounds result }
     {
-        let lines = self.edges(b);
+        let lines = self.edges();
         match self.places {
-            &[place] => offer(lines, b, self.region(place).core),
+            &[place] => offer(lines, self.bounds, self.region(place).core),
             _ => lines,
         }
     }
 
-    // Where a box is cut. The contract leaves open where, since every cut gives the same
-    // count.
-    pub(crate) fn cut_for(self, b: Rect) -> Cut
-        requires full_box { FullBox b }
-        requires divisible { Divisible b }
-        ensures { Cuts b result }
+    // Where the box is cut. The contract leaves open where, since every cut gives the
+    // same count.
+    pub(crate) fn cut(self) -> Cut
+        requires { Divisible self.bounds }
+        ensures { Cuts self.entry.bounds result }
     {
-        choose(b, self.lines_for(b))
+        choose(self.bounds, self.lines())
     }
 }

@@ -1,6 +1,7 @@
 // The regions of a table that are left for a box.
 ghost use Rattle.std.specs.Prelude.{◌≤◌, length};
 ghost use Rattle.spacing.specs.Sizes.{live_room};
+ghost use Rattle.geometry.specs.Cuts.{FullBox};
 ghost use Rattle.geometry.specs.Places.{Listed};
 
 use arrayvec::ArrayVec;
@@ -10,19 +11,21 @@ use spacing::Region;
 // How many regions may be left for a box, or be live.
 pub(crate) const LIVE_ROOM: usize = MOST_RECTS;
 
-// The regions that are left, by their places in the table. Places are small numbers, so
-// that the lists of all boxes under way take little room.
+// A box that has squares, and the regions of a table that are left for it, by their
+// places. Places are small numbers, so that the lists of all boxes under way take little
+// room.
 #[derive(Clone, Copy)]
 pub(crate) struct Left<'a> {
+    pub(crate) bounds: Rect,
     pub(crate) regions: &'a [Region],
     pub(crate) places: &'a [u16],
+    ghost full: { FullBox bounds },
     ghost listed: { Listed regions.now places.now },
     ghost few: { length places.now ≤ live_room },
 }
 
 impl<'a> Left<'a> {
     ghost use Rattle.std.specs.Prelude.{◌<◌, ◌≡◌, true, MatchOption, Contains, Some, slice_get};
-    ghost use Rattle.geometry.specs.Cuts.{FullBox};
     ghost use Rattle.free.specs.Free.{held_by, AgreeOn};
     ghost use Rattle.free.specs.Counting.{regions_left, Enough};
 
@@ -34,23 +37,22 @@ impl<'a> Left<'a> {
         self.regions[usize::from(place)]
     }
 
-    // The places of those that come near a box and that the one at place `lead` does not
+    // The places of those that come near the box and that the one at place `lead` does not
     // make idle, or none where one covers it. The contract leaves open which are kept:
     // they hold all squares of the box that the others do.
-    pub(crate) fn keep_near(self, lead: u16, b: Rect) -> Option<ArrayVec<u16, LIVE_ROOM>>
-        requires full_box { FullBox b }
-        requires has_lead { Contains self.places.now lead }
-        ensures { MatchOption result (AgreeOn b (held_by (regions_left self.entry)) (λ x y. true)) (λ own. Enough self.entry b own.items) }
+    pub(crate) fn keep_near(self, lead: u16) -> Option<ArrayVec<u16, LIVE_ROOM>>
+        requires { Contains self.places.now lead }
+        ensures { MatchOption result (AgreeOn self.entry.bounds (held_by (regions_left self.entry)) (λ x y. true)) (λ own. Enough self.entry own.items) }
     {
         let c = self.region(lead);
         let mut own = ArrayVec::new();
         for &place in self.places {
             let r = self.region(place);
-            if r.is_near(b) {
-                if r.covers_box(b) {
+            if r.is_near(self.bounds) {
+                if r.covers_box(self.bounds) {
                     return None;
                 }
-                if !r.is_spare(place, lead, c, b) {
+                if !r.is_spare(place, lead, c, self.bounds) {
                     own.push(place);
                 }
             }
@@ -58,18 +60,17 @@ impl<'a> Left<'a> {
         Some(own)
     }
 
-    // The place of the region that the nearest square of a box lies deepest in: it is
+    // The place of the region that the nearest square of the box lies deepest in: it is
     // likely to make many others idle. The contract leaves open which it is, since every
     // one gives the same count.
-    pub(crate) fn deepest(self, b: Rect) -> u16
-        requires full_box { FullBox b }
-        requires some { 0 < length self.places.now }
+    pub(crate) fn deepest(self) -> u16
+        requires { 0 < length self.places.now }
         ensures { Contains self.entry.places.now result }
     {
         let mut lead = self.places[0];
         let mut most = 0;
         for &place in self.places {
-            let depth = self.region(place).depth_in(b);
+            let depth = self.region(place).depth_in(self.bounds);
             if most < depth {
                 lead = place;
                 most = depth;

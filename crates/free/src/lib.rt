@@ -55,10 +55,11 @@ fn squares_outside(regions: &[Region], b: Rect) -> u64
     }
     let places = all_places(regions);
     let left = Left {
+        bounds: b,
         regions,
         places: places.as_slice(),
     };
-    left.free_by(places[0], b)
+    left.free_by(places[0])
 }
 
 // The squares of a box, such as a tile, that no region of a table holds, by a part

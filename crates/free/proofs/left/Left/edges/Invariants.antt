@@ -3,4 +3,4 @@ use Rattle.geometry.specs.Cuts.{InBox}
 use Rattle.free.proofs.left.Left.edges.Given as goal
 
 abbrev pub invariant-loop-place : goal.invariant-loop-place
-invariant-loop-place l = InBox l.b l.lines
+invariant-loop-place l = InBox l.self.bounds l.lines

@@ -3,4 +3,4 @@ use Rattle.free.proofs.Places.{KeptSoFar}
 use Rattle.free.proofs.left.Left.keep_near.Given as goal
 
 abbrev pub invariant-loop-place : goal.invariant-loop-place
-invariant-loop-place l = KeptSoFar l.self.regions.now l.self.places.now l.lead l.c l.b l.own.items l.place-index
+invariant-loop-place l = KeptSoFar l.self l.lead l.c l.own.items l.place-index
