@@ -77,8 +77,8 @@ module _ (loads : ℕ → ℕ → ℕ) (plan : Plan) (total : TileBox → ℕ) (
 
 -- ---- the verdict by corner sums
 
-module _ {rects : List Rect} {amounts : List ℕ} {plan : Plan} {before table sums : List ℕ}
-    (f : Filled (load_of rects amounts plan) before table 0 (plan.across * plan.across)) (t : Tiled rects amounts plan)
+module _ (rects : List Rect) {amounts : List ℕ} {plan : Plan} {before table sums : List ℕ}
+    (f : Filled (load_of rects amounts plan) before table 0 (plan.across * plan.across)) (t : Tiled amounts plan)
     (full : plan.across * plan.across ≤ length before) (s : Summed table sums plan.across plan.across) where
   summed : CornersOf (number_at table plan.across) sums plan.across
   summed =

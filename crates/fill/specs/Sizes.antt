@@ -2,13 +2,12 @@
 -- public functions names it, and every accepted job has it.
 use Rattle.std.specs.Prelude.{ℕ, ◌≤◌, List}
 use Rattle.geometry.specs.Sizes.{widest, top_bound}
-use Rattle.geometry.specs.declared.Rect.{Rect}
 use Rattle.tiles.specs.Sizes.{Tiled}
 use Rattle.tiles.specs.declared.Plan.{Plan}
 
 -- a plan that is judged
-pub record Planned (rects : List Rect) (amounts : List ℕ) (plan : Plan) : Type 0 where
-  pub tiled : Tiled rects amounts plan
+pub record Planned (amounts : List ℕ) (plan : Plan) : Type 0 where
+  pub tiled : Tiled amounts plan
   pub fits : plan.cut ≤ plan.across
   pub window : plan.window ≤ widest
   pub lower : plan.lower ≤ top_bound

@@ -2,13 +2,12 @@
 #![tactic(auto)]
 
 ghost use Rattle.std.specs.Prelude.{◌≡◌};
-ghost use Rattle.sweep.specs.Strips.{Swept};
 ghost use Rattle.fill.specs.Judge.{verdict_of};
 ghost use Rattle.fill.specs.Sizes.{Planned};
 
 mod judging;
 
-use geometry::Rect;
+use sweep::Sorted;
 use tiles::{Corners, Plan, TILES_ROOM, set_loads, sum_rows};
 
 // The bound that a window fails: over says that U fails, under that L does.
@@ -34,15 +33,13 @@ pub enum Verdict {
     Undecided(Failure),
 }
 
-// The verdict on a table of amounts, one to a tile, row by row. The order of the
-// sides is lent, as for the exact run.
-pub fn judge(rects: &[Rect], order: &[usize], amounts: &[u64], plan: Plan) -> Verdict
-    requires planned { Planned rects.now amounts.now plan }
-    requires swept { Swept rects.now order.now }
-    ensures { result ≡ verdict_of rects.now amounts.now plan }
+// The verdict on a table of amounts, one to a tile, row by row.
+pub fn judge(sorted: &Sorted, amounts: &[u64], plan: Plan) -> Verdict
+    requires { Planned amounts.now plan }
+    ensures { result ≡ verdict_of sorted.now.rects.now amounts.now plan }
 {
     let mut table = [0u64; TILES_ROOM];
-    set_loads(rects, order, amounts, plan, &mut table);
+    set_loads(sorted, amounts, plan, &mut table);
     sum_rows(plan.across, &mut table);
     let loads = Corners {
         sums: &table,

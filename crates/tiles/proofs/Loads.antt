@@ -1,5 +1,5 @@
 -- The table of tile loads: how it is filled, and that its whole load fits 64 bits.
-use Prim.Native.Nat.{ℕ, suc, ◌+◌, ◌-◌, ◌*◌, ◌/◌, ◌%◌, ◌≤◌, ◌<◌}
+use Prim.Native.Nat.{ℕ, suc, ◌+◌, ◌-◌, ◌*◌, ◌≤◌, ◌<◌}
 use mathlib.Core.Path.{◌≡◌, refl, sym, ap, ap₂, ◌∙◌, subst}
 use mathlib.Core.List.{List}
 use mathlib.Core.Logic.{◌⊎◌, inl, inr}
@@ -9,22 +9,21 @@ use native.Mathlib.Omega.{arith}
 use lib.Arith.{digits_lt, digits_div, digits_mod}
 use lib.ListN.{length, get_or, set, length-set}
 use lib.Seq.{get_or-set_same, get_or-set_other}
-use Rattle.laws.proofs.Tests.{le_or_lt, below_or_last}
+use Rattle.laws.proofs.Tests.{below_or_last}
 use Rattle.geometry.specs.declared.Rect.{Rect}
-use Rattle.geometry.specs.Sizes.{widest}
+use Rattle.geometry.specs.Sizes.{widest, largest}
 use Rattle.geometry.specs.Count.{box_sum}
 use Rattle.geometry.specs.Layout.{covered_area}
-use Rattle.geometry.proofs.Counting.{Inside, box_cong, box_le, box_const}
+use Rattle.geometry.proofs.Counting.{same_box, Inside, box_cong, box_le, box_const}
 use Rattle.geometry.proofs.Overlaps.{area_small}
-use Rattle.sweep.specs.declared.Frame.{Frame}
-use Rattle.sweep.specs.Strips.{strip_sum, StripOf}
-use Rattle.sweep.specs.Cursors.{frame_at}
+use Rattle.sweep.specs.declared.strips.Strip.{Strip}
+use Rattle.sweep.specs.Sweeps.{strip_area}
 use Rattle.spacing.specs.declared.Keepout.{Keepout}
 use Rattle.tiles.specs.declared.Plan.{Plan}
 use Rattle.spacing.specs.Eligible.{tile, fillable_area}
 use Rattle.tiles.specs.Tiles.{TileBox, number_at, load}
-use Rattle.tiles.specs.Sums.{load_of, load_along, tiles_before, Loads, TilesInLayout, Filled}
-use Rattle.tiles.specs.Sizes.{most_across, tiles_room, Tiled, RowTiled}
+use Rattle.tiles.specs.Sums.{load_of, TileRow, tiles_before, Loads, TilesInLayout, Filled}
+use Rattle.tiles.specs.Sizes.{most_across, tiles_room, Tiled}
 use Rattle.spacing.proofs.Outside.{fillable_small}
 
 -- tile (i, j) has a place in a table with a number for each tile
@@ -52,22 +51,6 @@ filled_next f l m from t v s p h e =
 pub filled_to : (f : ℕ → ℕ) (l m : List ℕ) (from to n : ℕ) → Filled f l m from to → to ≡ n → Filled f l m from n
 filled_to f l m from to n s e = subst (Filled f l m from) e s
 
-pub filled_then : (f : ℕ → ℕ) (l m k : List ℕ) (from mid to : ℕ) → Filled f l m from mid → Filled f m k mid to → from ≤ mid → mid ≤ to → Filled f l k from to
-filled_then f l m k from mid to s r p q =
-    record {
-      size = r.size ∙ s.size;
-      set = λ i a u. go i a u (le_or_lt mid i);
-      below = λ i u. r.below i (omega arith) ∙ s.below i u;
-      rest = λ i u. r.rest i u ∙ s.rest i (omega arith);
-    }
-  where
-    go : (i : ℕ) → from ≤ i → i < to → (mid ≤ i) ⊎ (i < mid) → get_or k i 0 ≡ f i
-    go i a u (inl h) = r.set i h u
-    go i a u (inr h) = r.below i h ∙ s.set i a h
-
-pub filled_as : (f g : ℕ → ℕ) (l m : List ℕ) (from to : ℕ) → Filled f l m from to → ((k : ℕ) → from ≤ k → k < to → f k ≡ g k) → Filled g l m from to
-filled_as f g l m from to s e = record { size = s.size; set = λ k a u. s.set k a u ∙ e k a u; below = s.below; rest = s.rest }
-
 -- a tile's width
 tile_width : (side i : ℕ) → suc i * side - i * side ≡ side
 tile_width side i = omega (arith, suc-mul i side)
@@ -81,64 +64,33 @@ tile_fillable ks side i j = omega (arith, fillable_small ks (tile side i j), ap�
 
 -- ---- a row of tiles by its strip
 
-module _ (rects : List Rect) (amounts : List ℕ) (plan : Plan) (j : ℕ) (z : Tiled rects amounts plan) (row : j < plan.across) (lows highs : List ℕ)
-    (lent : StripOf rects (j * plan.side) (j * plan.side + plan.side) lows highs) where
-  tile_area : (i : ℕ) → strip_sum lows highs (i * plan.side) (suc i * plan.side) ≡ covered_area rects (tile plan.side i j)
-  tile_area i =
-      lent.areas (i * plan.side) (suc i * plan.side) (omega (arith, suc-mul i plan.side))
-      ∙ ap (λ (y : ℕ). covered_area rects (record { x1 = i * plan.side; y1 = j * plan.side; x2 = suc i * plan.side; y2 = y }))
-      (omega (arith, suc-mul j plan.side))
-
-  side_small : plan.side ≤ widest
-  side_small = omega (arith, z.layout, mul-le-mul_right {m = 1} {n = plan.across} plan.side (omega arith))
-
-  pub row_tiled : RowTiled lows highs amounts plan j
-  row_tiled =
-      record {
-        few = z.few;
-        row = row;
-        table = z.table;
-        light = λ i h.
-            omega (arith, tile_area i, tile_small rects plan.side i j, z.room (j * plan.across + i), mul-le-mul side_small side_small);
-        layout = z.layout;
-      }
-
-  pub row_loads : (t : ℕ) → j * plan.across ≤ t → t < suc j * plan.across → load_along lows highs amounts plan j t ≡ load_of rects amounts plan t
-  row_loads t h k =
-      ap₂ ◌+◌ (tile_area i) (ap (λ (p : ℕ). get_or amounts p 0) here)
-      ∙ sym (ap₂ (load rects amounts plan) (ap (λ (p : ℕ). p % plan.across) here ∙ digits_mod j {m = plan.across} {r = i} inside)
-      (ap (λ (p : ℕ). p / plan.across) here ∙ digits_div j {m = plan.across} {r = i} inside))
-    where
-      i : ℕ
-      i = t - j * plan.across
-
-      here : t ≡ j * plan.across + (t - j * plan.across)
-      here = omega arith
-
-      inside : t - j * plan.across < plan.across
-      inside = omega (arith, suc-mul j plan.across)
-
--- ---- a box that is carried along a row of tiles
-
 -- tile i ends where the next one begins
 pub tile_end : (side i : ℕ) → i * side ≤ (i + 1) * side
 tile_end side i = mul-le-mul_right side (omega arith)
 
-module _ (lows highs amounts : List ℕ) (plan : Plan) (j i : ℕ) (z : RowTiled lows highs amounts plan j) (h : i < plan.across) where
+module _ {strip : Strip} {amounts : List ℕ} {plan : Plan} {j i : ℕ} (z : Tiled amounts plan) (r : TileRow strip plan j) (h : i < plan.across) where
   pub place_inside : j * plan.across + i < plan.across * plan.across
-  place_inside = place_within plan.across i j (plan.across * plan.across) h z.row (omega arith)
+  place_inside = place_within plan.across i j (plan.across * plan.across) h r.row (omega arith)
 
-  module _ (f : Frame) (e : f ≡ frame_at lows highs (i * plan.side) ((i + 1) * plan.side)) where
-    area_is : f.area ≡ strip_sum lows highs (i * plan.side) (suc i * plan.side)
-    area_is = ap (λ (f : Frame). f.area) e ∙ ap (λ (k : ℕ). strip_sum lows highs (i * plan.side) (k * plan.side)) (add-one i)
+  module _ {s : Strip} {area : ℕ} (same : s ≡ strip) (e : area ≡ strip_area s (i * plan.side) ((i + 1) * plan.side)) where
+    abbrev rects : List Rect
+    rects = strip.sorted.now.rects.now
 
-    pub load_formed : f.area + get_or amounts (j * plan.across + i) 0 ≡ load_along lows highs amounts plan j (j * plan.across + i)
+    tile_area : area ≡ covered_area rects (tile plan.side i j)
+    tile_area =
+        e
+        ∙ ap (λ (s : Strip). strip_area s (i * plan.side) ((i + 1) * plan.side)) same
+        ∙ ap (covered_area rects) (same_box refl r.low (ap (λ (k : ℕ). k * plan.side) (add-one i)) r.high)
+
+    pub load_light : area + get_or amounts (j * plan.across + i) 0 ≤ 2 * largest
+    load_light =
+        let side : plan.side ≤ widest = omega (arith, z.layout, mul-le-mul_right {m = 1} {n = plan.across} plan.side (omega arith)) in
+        omega (arith, tile_area, tile_small rects plan.side i j, z.room (j * plan.across + i), mul-le-mul side side)
+
+    pub load_formed : area + get_or amounts (j * plan.across + i) 0 ≡ load_of rects amounts plan (j * plan.across + i)
     load_formed =
-        ap (λ (a : ℕ). a + get_or amounts (j * plan.across + i) 0) area_is
-        ∙ ap (λ (k : ℕ). strip_sum lows highs (k * plan.side) (suc k * plan.side) + get_or amounts (j * plan.across + i) 0) column
-      where
-        column : i ≡ j * plan.across + i - j * plan.across
-        column = omega arith
+        ap (λ (a : ℕ). a + get_or amounts (j * plan.across + i) 0) tile_area
+        ∙ sym (ap₂ (load rects amounts plan) (digits_mod j {m = plan.across} {r = i} h) (digits_div j {m = plan.across} {r = i} h))
 
 -- ---- the filled table
 
@@ -155,7 +107,7 @@ module _ (rects : List Rect) (amounts : List ℕ) (plan : Plan) (before table : 
       s.set (j * across + i) (omega arith) (place_within across i j (across * across) h k (omega arith))
       ∙ ap₂ loads (digits_mod j {m = across} {r = i} h) (digits_div j {m = across} {r = i} h)
 
-  pub table_light : Tiled rects amounts plan → across * across ≤ length before → Loads table across
+  pub table_light : Tiled amounts plan → across * across ≤ length before → Loads table across
   table_light t h =
       record {
         tiles = record { few = t.few; full = omega (arith, s.size) };

@@ -3,7 +3,7 @@
 use Rattle.std.specs.Prelude.{ℕ, suc, ◌+◌, ◌-◌, ◌*◌, ◌/◌, ◌%◌, ◌≤◌, ◌<◌, zero, ◌≡◌, List, length, get_or}
 use Rattle.geometry.specs.declared.Rect.{Rect}
 use Rattle.geometry.specs.Count.{box_sum, span}
-use Rattle.sweep.specs.Strips.{strip_sum}
+use Rattle.sweep.specs.declared.strips.Strip.{Strip}
 use Rattle.tiles.specs.declared.Plan.{Plan}
 use Rattle.tiles.specs.Sizes.{most_across, heaviest}
 use Rattle.tiles.specs.Tiles.{TileBox, number_at, load}
@@ -14,10 +14,11 @@ use Rattle.tiles.specs.Tiles.{TileBox, number_at, load}
 abbrev pub load_of : List Rect → List ℕ → Plan → ℕ → ℕ
 load_of rs amounts plan t = load rs amounts plan (t % plan.across) (t / plan.across)
 
--- the load of tile number t, where it lies in row j and the row's strip is at hand
-abbrev pub load_along : (lows highs amounts : List ℕ) → Plan → (j t : ℕ) → ℕ
-load_along lows highs amounts plan j t =
-    strip_sum lows highs ((t - j * plan.across) * plan.side) (suc (t - j * plan.across) * plan.side) + get_or amounts t 0
+-- row j of the tiles, by its strip
+pub record TileRow (strip : Strip) (plan : Plan) (j : ℕ) : Type 0 where
+  pub row : j < plan.across
+  pub low : strip.y1 ≡ j * plan.side
+  pub high : strip.y2 ≡ suc j * plan.side
 
 -- the tiles left of column x and below row y
 abbrev pub tiles_before : (x y : ℕ) → TileBox

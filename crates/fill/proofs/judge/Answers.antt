@@ -5,13 +5,15 @@ use Rattle.fill.proofs.Verdicts.{plan_sums, sums_verdict}
 use Rattle.fill.proofs.judge.Goals as goal
 
 pub sum_rows-requires : goal.sum_rows-requires
-sum_rows-requires c = table_light _ _ _ _ _ c.set_loads.ensures c.requires.planned.tiled (tiles_few _ c.requires.planned.tiled.few)
+sum_rows-requires c =
+    let tiled = c.requires.tiled in table_light _ _ _ _ _ c.set_loads.ensures tiled (tiles_few _ tiled.few)
 
 pub invariant_of-loads : goal.invariant_of-loads
 invariant_of-loads c =
-    let tiled = c.requires.planned.tiled in record { corner_sums = plan_sums c.set_loads.ensures tiled (tiles_few _ tiled.few) c.sum_rows.ensures }
+    let tiled = c.requires.tiled in
+    record { corner_sums = plan_sums _ c.set_loads.ensures tiled (tiles_few _ tiled.few) c.sum_rows.ensures }
 
 pub returns : goal.returns
 returns c =
-    let tiled = c.requires.planned.tiled in
-    c.judge_loads.ensures ∙ sums_verdict c.set_loads.ensures tiled (tiles_few _ tiled.few) c.sum_rows.ensures c.requires.planned.fits
+    let tiled = c.requires.tiled in
+    c.judge_loads.ensures ∙ sums_verdict _ c.set_loads.ensures tiled (tiles_few _ tiled.few) c.sum_rows.ensures c.requires.fits
