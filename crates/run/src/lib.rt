@@ -38,14 +38,14 @@ fn counts_of(rects: &[Rect], w: u64, exact: Extremes, greatest: Quick, least: Qu
     }
 }
 
-// The answer to a job. Its rectangles are sorted once, for all runs, and the exact
-// run's windows are handed to the quick runs, so that nothing is searched twice.
-pub fn run(head: Head, rects: &[Rect], amounts: &[u64]) -> Answer
-    requires { Ready head rects.now amounts.now }
-    ensures { result ≡ answer_for head rects.now amounts.now }
+// The answer to a job whose rectangles are sorted. The exact run's windows are handed
+// to the quick runs, so that nothing is searched twice.
+fn run_sorted(head: Head, sorted: &Sorted, amounts: &[u64]) -> Answer
+    requires { Ready head sorted.now.rects.now amounts.now }
+    ensures { result ≡ answer_for head sorted.now.rects.now amounts.now }
 {
-    let sorted = Sorted::of(rects);
-    let exact = extremes::exact_run(&sorted, head.size, head.window);
+    let rects = sorted.rects;
+    let exact = extremes::exact_run(sorted, head.size, head.window);
     let max = exact.greatest;
     let min = exact.least;
     let asked = Asked {
@@ -54,14 +54,10 @@ pub fn run(head: Head, rects: &[Rect], amounts: &[u64]) -> Answer
         accuracy: head.accuracy,
         levels: head.levels,
     };
-    let greatest = zoom::quick_run(Sense::Greatest, &sorted, asked, max);
-    let least = zoom::quick_run(Sense::Least, &sorted, asked, min);
+    let greatest = zoom::quick_run(Sense::Greatest, sorted, asked, max);
+    let least = zoom::quick_run(Sense::Least, sorted, asked, min);
     let counts = counts_of(rects, head.window, exact, greatest, least);
-    let density = zoom::density(
-        head.window,
-        greatest.last.named.area,
-        greatest.last.limit,
-    );
+    let density = zoom::density(head.window, greatest.last.named.area, greatest.last.limit);
     let positions = positions::count_positions(
         rects,
         head.size,
@@ -69,7 +65,7 @@ pub fn run(head: Head, rects: &[Rect], amounts: &[u64]) -> Answer
         head.lower,
         head.upper,
     );
-    let verdict = fill::judge(&sorted, amounts, standing::plan_of(head));
+    let verdict = fill::judge(sorted, amounts, standing::plan_of(head));
     Answer {
         exact,
         greatest,
@@ -79,4 +75,12 @@ pub fn run(head: Head, rects: &[Rect], amounts: &[u64]) -> Answer
         positions,
         verdict,
     }
+}
+
+// The answer to a job. Its rectangles are sorted once, for all runs.
+pub fn run(head: Head, rects: &[Rect], amounts: &[u64]) -> Answer
+    requires { Ready head rects.now amounts.now }
+    ensures { result ≡ answer_for head rects.now amounts.now }
+{
+    run_sorted(head, &Sorted::of(rects), amounts)
 }
