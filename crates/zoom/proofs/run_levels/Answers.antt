@@ -51,7 +51,8 @@ copy_from_slice-requires c =
     ∙ sym (length-take-le _ _ (omega (arith, c.flag_count-used.ensures, c.search_level-this.auto.new, c.loop-j.auto.new, c.requires.room)))
 
 pub new-grid-requires-in-loop-j-clause-some_step : goal.new-grid-requires-in-loop-j-clause-some_step
-new-grid-requires-in-loop-j-clause-some_step c = some_half c.loop-j.invariant (omega (arith, c.loop-j-test.true, c.last_level-last.ensures))
+new-grid-requires-in-loop-j-clause-some_step c =
+    omega (arith, some_half c.loop-j.invariant (omega (arith, c.loop-j-test.true, c.last_level-last.ensures)))
 
 pub loop-j-preserved : goal.loop-j-preserved
 loop-j-preserved c =
