@@ -10,32 +10,22 @@ use Rattle.geometry.specs.declared.Spot.{Spot}
 use Rattle.geometry.specs.declared.Sense.{Sense}
 use Rattle.geometry.specs.Extreme.{spot_at, NoBetter}
 use Rattle.geometry.proofs.Extremes.{better_self}
-use Rattle.levels.specs.declared.Grid.{Grid}
+use Rattle.levels.specs.declared.grid.Grid.{Grid}
 use Rattle.levels.specs.Sizes.{starts_room, level_room, kept_room}
-use Rattle.levels.specs.Grid.{Sized}
 use Rattle.levels.specs.Passes.{row_seen, rows_seen, PassLaws}
 use Rattle.levels.specs.Laws.{no_better_trans}
 use Rattle.levels.proofs.Starts.{start_fits}
 
 -- ---- bounds
 
-pub starts_small : (g : Grid) → Sized g → g.starts ≤ starts_room
-starts_small g z = omega (arith, z.count, z.small, div-le_self (g.size - g.window) g.step)
+pub starts_small : (g : Grid) → g.starts ≤ starts_room
+starts_small g = omega (arith, g.count, g.small, div-le_self (g.size - g.window) g.step)
 
-pub start_inside : (g : Grid) (i : ℕ) → Sized g → i < g.starts → i * g.step + g.window ≤ g.size
-start_inside g i z h = omega (arith, start_fits g.size g.window g.step i z.some_step (rw z.count at h), z.inside)
+pub start_inside : (g : Grid) (i : ℕ) → i < g.starts → i * g.step + g.window ≤ g.size
+start_inside g i h = omega (arith, start_fits g.size g.window g.step i g.some_step (rw g.count at h), g.inside)
 
-pub row_place : (g : Grid) (j : ℕ) → Sized g → j ≤ g.starts → j * g.starts ≤ level_room
-row_place g j z h = mul-le-mul {n₂ = starts_room} (omega (arith, starts_small g z)) (starts_small g z)
-
--- ---- a row depends on the areas at its starts alone
-
-pub row_seen_cong : {S : Type 0} (look : S → ℕ → Spot → S) (f g : ℕ → ℕ → ℕ) (t y at k : ℕ) (z : S) → ((i : ℕ) → i < k → f (i * t) y ≡ g (i * t) y) →
-    row_seen look f t y at k z ≡ row_seen look g t y at k z
-unfolding row_seen
-row_seen_cong look f g t y at zero z h = refl
-row_seen_cong look f g t y at (suc k) z h =
-    ap₂ (λ u a. look u (at + k) (record { area = a; x = k * t; y = y })) (row_seen_cong look f g t y at k z (λ i l. h i (omega arith))) (h k (omega arith))
+pub row_place : (g : Grid) (j : ℕ) → j ≤ g.starts → j * g.starts ≤ level_room
+row_place g j h = mul-le-mul {n₂ = starts_room} (omega (arith, starts_small g)) (starts_small g)
 
 -- ---- what the laws of a pass give of a row and of all rows
 

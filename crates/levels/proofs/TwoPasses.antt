@@ -13,9 +13,9 @@ use Rattle.geometry.specs.Count.{sum, one_if}
 use Rattle.geometry.specs.Extreme.{better, spot_at, best_in_row, best_in_rows, NoBetter}
 use Rattle.geometry.specs.Positions.{window_area}
 use Rattle.levels.specs.declared.Level.{Level}
-use Rattle.levels.specs.declared.Grid.{Grid}
+use Rattle.levels.specs.declared.grid.Grid.{Grid}
 use Rattle.levels.specs.Levels.{starts_on, far_area, level_of}
-use Rattle.levels.specs.Grid.{Sized, AtStart}
+use Rattle.levels.specs.Grid.{AtStart}
 use Rattle.levels.specs.Passing.{flag_of, flags_in_row, flags_in_rows, Harmless}
 use Rattle.levels.specs.Weighing.{better_area}
 use Rattle.levels.specs.Passes.{named_at, weighed_at, row_seen, rows_seen}
@@ -40,13 +40,13 @@ named_rows s f t k (suc m) z =
     ap (row_seen (named_at s) f t (m * t) (m * k) k) (named_rows s f t k m z) ∙ named_row s f t (m * t) (m * k) k (best_in_rows s f t k m z.0, z.1)
 
 -- it names the best standard window, and leaves the flags as they were
-module _ (rs : List Rect) (g : Grid) (z : Sized g) (before named : Spot) (new new' : List Bool)
+module _ (rs : List Rect) (g : Grid) (before named : Spot) (new new' : List Bool)
     (first : (named, new') ≡ rows_seen (named_at g.sense) (far_area g.sense rs g.size g.window 0) g.step g.starts g.starts (before, new)) where
   pub first_names : named ≡ best_in_rows g.sense (window_area rs g.window) g.step g.starts g.starts before
   first_names =
       ap (λ (u : Spot × List Bool). u.0) (first ∙ named_rows g.sense (far_area g.sense rs g.size g.window 0) g.step g.starts g.starts (before, new))
       ∙ rows_cong g.sense _ _ g.step g.starts g.starts before
-      (λ i j h k. sym (standard_is_far g.sense rs g.size g.window (i * g.step) (j * g.step) (start_inside g i z h) (start_inside g j z k)))
+      (λ i j h k. sym (standard_is_far g.sense rs g.size g.window (i * g.step) (j * g.step) (start_inside g i h) (start_inside g j k)))
 
   pub first_leaves : new' ≡ new
   first_leaves =
@@ -124,17 +124,17 @@ pub record LevelDone (s : Sense) (rs : List Rect) (n w t : ℕ) (before : Spot) 
   pub answer : this ≡ level_of s rs n w t before
   pub flags : new' ≡ flags_in_rows s this.named.area (far_area s rs n w t) t (starts_on n w t) (starts_on n w t) new
 
-pub level_done : (s : Sense) (rs : List Rect) (g : Grid) (before best : Spot) (this : Level) (new new' : List Bool) → Sized g → AtStart rs g.size g.window g.step before →
+pub level_done : (s : Sense) (rs : List Rect) (g : Grid) (before best : Spot) (this : Level) (new new' : List Bool) → AtStart rs g.size g.window g.step before →
     best ≡ best_in_rows s (window_area rs g.window) g.step g.starts g.starts before →
     (this, new') ≡ rows_seen (weighed_at s) (far_area s rs g.size g.window g.step) g.step g.starts g.starts (record { named = best; limit = best.area; kept = 0 }, new) →
     LevelDone s rs g.size g.window g.step before this new new'
 unfolding level_of
-level_done s rs g before best this new new' z a e r =
+level_done s rs g before best this new new' a e r =
     record {
       answer = λ i. record { named = (stays ∙ best_is) i; limit = limit_is i; kept = kept_is i };
       flags =
           ap (λ (u : Level × List Bool). u.1) r ∙ rows_flags s far g.step g.starts g.starts (first best, new)
-          ∙ ap₂ (λ (b : Spot) (k : ℕ). flags_in_rows s b.area far g.step k k new) (sym stays) z.count;
+          ∙ ap₂ (λ (b : Spot) (k : ℕ). flags_in_rows s b.area far g.step k k new) (sym stays) g.count;
     }
   where
     far : ℕ → ℕ → ℕ
@@ -151,15 +151,15 @@ level_done s rs g before best this new new' z a e r =
 
     best_is : best ≡ level.named
     best_is =
-        subst (λ (k : ℕ). best ≡ best_in_rows s (window_area rs g.window) g.step k k before) z.count e ∙ sym (level_searches s rs g.size g.window g.step before)
+        subst (λ (k : ℕ). best ≡ best_in_rows s (window_area rs g.window) g.step k k before) g.count e ∙ sym (level_searches s rs g.size g.window g.step before)
 
     counted : this ≡ (rows_seen (weighed_at s) far g.step (starts_on g.size g.window g.step) (starts_on g.size g.window g.step) (first level.named, new)).0
-    counted = ap (λ (u : Level × List Bool). u.0) (r ∙ ap₂ (λ (b : Spot) (k : ℕ). rows_seen (weighed_at s) far g.step k k (first b, new)) best_is z.count)
+    counted = ap (λ (u : Level × List Bool). u.0) (r ∙ ap₂ (λ (b : Spot) (k : ℕ). rows_seen (weighed_at s) far g.step k k (first b, new)) best_is g.count)
 
     limit_is : this.limit ≡ level.limit
     limit_is =
         ap (λ (v : Level). v.limit) counted ∙ rows_limit s far g.step _ _ (first level.named, new) level.named refl
-        ∙ far_from_best s rs g.size g.window g.step before z.some_step z.inside a
+        ∙ far_from_best s rs g.size g.window g.step before g.some_step g.inside a
 
     kept_against : ℕ → ℕ
     kept_against f =

@@ -4,7 +4,7 @@ use native.Mathlib.Nat.{mul-le-mul_right}
 use native.Mathlib.Omega.{arith}
 use Rattle.geometry.specs.declared.Sense.{Sense}
 use Rattle.geometry.specs.declared.Sense.TheVariants.{Greatest, Least}
-use Rattle.levels.specs.declared.Grid.{Grid}
+use Rattle.levels.specs.declared.grid.Grid.{Grid}
 use Rattle.levels.specs.Spans.{span_from, span_to}
 
 -- ---- spans

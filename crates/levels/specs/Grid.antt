@@ -4,25 +4,15 @@ use Rattle.geometry.specs.declared.Rect.{Rect}
 use Rattle.geometry.specs.declared.Spot.{Spot}
 use Rattle.geometry.specs.Extreme.{spot_at}
 use Rattle.geometry.specs.Positions.{window_area}
-use Rattle.levels.specs.declared.Grid.{Grid}
+use Rattle.levels.specs.declared.grid.Grid.{Grid}
 use Rattle.levels.specs.Levels.{starts_on, far_area}
 use Rattle.geometry.specs.Sizes.{widest}
-use Rattle.levels.specs.Sizes.{starts_room}
 
 -- what counting the starts on an axis asks
 pub record Countable (n w t : ℕ) : Type 0 where
   pub small : n ≤ widest
   pub inside : w ≤ n
   pub some_step : 1 ≤ t
-
--- the starts of a level, and what 64 bits ask of them and of the rows of flags above them
-pub record Sized (g : Grid) : Type 0 where
-  pub small : g.size ≤ widest
-  pub inside : g.window ≤ g.size
-  pub some_step : 1 ≤ g.step
-  pub step_fits : g.step ≤ g.window
-  pub count : g.starts ≡ starts_on g.size g.window g.step
-  pub few_above : g.stride ≤ starts_room
 
 -- the far area of the window at a position of the level
 abbrev pub far_on : Grid → (rects : List Rect) → (x y : ℕ) → ℕ

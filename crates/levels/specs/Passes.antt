@@ -1,14 +1,11 @@
 -- A pass over the starts of a level, with what it carries along, `S`, and the table of flags. A buyer need not read it: no contract of the unit's public
 -- functions names it.
-use Rattle.std.specs.Prelude.{ℕ, zero, suc, ◌+◌, ◌*◌, ◌≤◌, ◌<◌, Bool, List, set}
-use Rattle.geometry.specs.declared.Rect.{Rect}
+use Rattle.std.specs.Prelude.{ℕ, zero, suc, ◌+◌, ◌*◌, ◌≤◌, Bool, List, set}
 use Rattle.geometry.specs.declared.Spot.{Spot}
 use Rattle.geometry.specs.declared.Sense.{Sense}
 use Rattle.geometry.specs.Extreme.{spot_at, replaced, NoBetter}
-use Rattle.levels.specs.declared.Grid.{Grid}
 use Rattle.levels.specs.declared.Level.{Level}
-use Rattle.levels.specs.Grid.{Sized}
-use Rattle.levels.specs.Passing.{flag_of, HarmlessRow}
+use Rattle.levels.specs.Passing.{flag_of}
 use Rattle.levels.specs.Weighing.{weighed}
 
 -- what one more start does in the first pass, to the window named so far, and in the second, to the level; the number is the place of its flag
@@ -33,9 +30,3 @@ pub record PassLaws {S : Type 0} (best counted : S → ℕ) (Able : Sense → S 
   pub no_worse : (s : Sense) (z : S × List Bool) (at : ℕ) (p : Spot) → NoBetter s (best z.0) (best (look s z at p).0)
   pub counts : (s : Sense) (z : S × List Bool) (at : ℕ) (p : Spot) → counted (look s z at p).0 ≤ suc (counted z.0)
   pub able : (s : Sense) (z : S × List Bool) (at : ℕ) (p : Spot) → Able s z.0 → Able s (look s z at p).0
-
--- what a pass over row j asks, where `best` is the area that stands
-pub record RowPassable (rects : List Rect) (flags : List Bool) (g : Grid) (j best : ℕ) : Type 0 where
-  pub sized : Sized g
-  pub within : j < g.starts
-  pub spare : HarmlessRow g.sense rects g.size g.window g.step flags g.stride j best

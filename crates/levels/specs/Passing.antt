@@ -4,9 +4,8 @@ use Rattle.std.specs.Prelude.{ℕ, zero, suc, ◌+◌, ◌*◌, ◌/◌, ◌<◌
 use Rattle.geometry.specs.declared.Rect.{Rect}
 use Rattle.geometry.specs.declared.Sense.{Sense}
 use Rattle.geometry.specs.Extreme.{better, NoBetter}
-use Rattle.levels.specs.declared.Grid.{Grid}
+use Rattle.levels.specs.declared.grid.Grid.{Grid}
 use Rattle.levels.specs.Levels.{starts_on, far_area}
-use Rattle.levels.specs.Grid.{Sized}
 
 -- the flag of a start: whether its far area is no better than the level's best window
 abbrev pub flag_of : Sense → (best far : ℕ) → Bool
@@ -37,7 +36,9 @@ HarmlessRow s rs n w t flags stride j best = Spares s (λ x. far_area s rs n w t
 abbrev pub Harmless : Sense → List Rect → (n w t : ℕ) → List Bool → (stride best : ℕ) → Type 0
 Harmless s rs n w t flags stride best = (j : ℕ) → j < starts_on n w t → HarmlessRow s rs n w t flags stride j best
 
--- what a pass over all rows asks, where `best` is the area that stands
-pub record Passable (rects : List Rect) (flags : List Bool) (g : Grid) (best : ℕ) : Type 0 where
-  pub sized : Sized g
-  pub spare : Harmless g.sense rects g.size g.window g.step flags g.stride best
+-- what a pass asks, in row j and in all rows, where `best` is the area that stands
+abbrev pub RowPassable : List Rect → Grid → List Bool → (stride j best : ℕ) → Type 0
+RowPassable rects g flags stride j best = HarmlessRow g.sense rects g.size g.window g.step flags stride j best
+
+abbrev pub Passable : List Rect → Grid → List Bool → (stride best : ℕ) → Type 0
+Passable rects g flags stride best = Harmless g.sense rects g.size g.window g.step flags stride best

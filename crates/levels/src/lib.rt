@@ -3,6 +3,7 @@
 #![tactic(auto)]
 
 mod flags;
+mod grid;
 mod passes;
 mod spans;
 
@@ -11,14 +12,10 @@ ghost use Rattle.levels.specs.Levels.{starts_on, level_of};
 ghost use Rattle.levels.specs.Grid.{Countable, AtStart, far_on};
 ghost use Rattle.levels.specs.Passing.{Passable, flags_in_rows};
 
-pub use flags::flag_count;
-use geometry::{Sense, Spot};
+pub use flags::{Flags, MOST_FLAGS, flag_count};
+use geometry::Spot;
+pub use grid::Grid;
 use sweep::Sorted;
-
-// The flags of a level, one to a start, fit up to 505 starts on an axis, which the
-// largest legal job has at level 3, the last whose flags are read. Where there
-// are more, those without a flag are not passed over.
-pub const MOST_FLAGS: usize = 505 * 505;
 
 // A level: the window named; the limit, that is the far end of the bracket,
 // which no window passes: the best area of a bloated window for the greatest,
@@ -30,20 +27,6 @@ pub struct Level {
     pub named: Spot,
     pub limit: u64,
     pub kept: u64,
-}
-
-// The starts of a level: the sense of the extreme, the layout's side, the window's
-// side, the step between starts, the number of starts on an axis, and how many
-// flags a row of the level before has. The paper calls the step a tile side; the
-// fill has other tiles.
-#[derive(Clone, Copy)]
-pub struct Grid {
-    pub sense: Sense,
-    pub size: u64,
-    pub window: u64,
-    pub step: u64,
-    pub starts: u64,
-    pub stride: u64,
 }
 
 // The number of starts on an axis.
@@ -59,12 +42,12 @@ pub fn starts_on(size: u64, window: u64, step: u64) -> u64
 // the flags for the next level.
 pub fn search_level(
     sorted: &Sorted<'_>,
-    flags: &[bool],
+    flags: Flags<'_>,
     new: &mut [bool],
     g: Grid,
     before: Spot,
 ) -> Level
-    requires passable { Passable sorted.now.rects.now flags.now g before.area }
+    requires passable { Passable sorted.now.rects.now g flags.table.now flags.stride before.area }
     requires at_start { AtStart sorted.now.rects.now g.size g.window g.step before }
     ensures value { result ≡ level_of g.sense sorted.now.rects.now g.size g.window g.step before }
     ensures after { new.new ≡ flags_in_rows g.sense result.named.area (far_on g sorted.now.rects.now) g.step (starts_on g.size g.window g.step) (starts_on g.size g.window g.step) new.old }

@@ -1,19 +1,19 @@
 // A pass over the starts of a level that are not passed over. A level has two,
 // since its window must be known before a start is kept or flagged; both move
 // along the rows in the same way.
-ghost use Rattle.std.specs.Prelude.{ℕ, ◌*◌, ◌≤◌, ◌≡◌, List, Bool};
+ghost use Rattle.std.specs.Prelude.{ℕ, ◌*◌, ◌≤◌, ◌<◌, ◌≡◌, List, Bool};
 ghost use Rattle.geometry.specs.declared.Sense.{Sense};
 ghost use Rattle.geometry.specs.declared.Spot.{Spot};
 ghost use Rattle.geometry.specs.Extreme.{NoBetter};
 ghost use Rattle.levels.specs.Levels.{far_area};
 ghost use Rattle.levels.specs.Sizes.{level_room, kept_room};
 ghost use Rattle.levels.specs.Spans.{span_from, span_to};
-ghost use Rattle.levels.specs.Passing.{Passable};
+ghost use Rattle.levels.specs.Passing.{Passable, RowPassable};
 ghost use Rattle.levels.specs.Weighing.{better_area, Stands};
-ghost use Rattle.levels.specs.Passes.{named_at, weighed_at, row_seen, rows_seen, PassLaws, RowPassable};
+ghost use Rattle.levels.specs.Passes.{named_at, weighed_at, row_seen, rows_seen, PassLaws};
 ghost use Rattle.levels.specs.Laws.{named_laws, weighed_laws};
 
-use crate::flags::{flag_at, put_flag};
+use crate::flags::{Flags, put_flag};
 use crate::spans::{span_from, span_to};
 use crate::{Grid, Level};
 use geometry::{Sense, Spot};
@@ -132,7 +132,7 @@ fn better_area(sense: Sense, old: u64, new: u64) -> u64
 // The starts of row j, by its strip.
 fn row<P: Pass>(
     strip: &Strip<'_>,
-    flags: &[bool],
+    flags: Flags<'_>,
     new: &mut [bool],
     g: Grid,
     j: u64,
@@ -140,19 +140,19 @@ fn row<P: Pass>(
 ) -> P
     requires first { strip.now.y1 ≡ span_from g.sense (P.reach g.step) (j * g.step) }
     requires last { strip.now.y2 ≡ span_to g.sense g.size g.window (P.reach g.step) (j * g.step) }
-    requires passable { RowPassable strip.now.sorted.now.rects.now flags.now g j (P.best before) }
+    requires within { j < g.starts }
+    requires passable { RowPassable strip.now.sorted.now.rects.now g flags.table.now flags.stride j (P.best before) }
     requires few { P.counted before ≤ level_room }
     requires able { P.Able g.sense before }
     ensures { (result, new.new) ≡ row_seen (P.looked g.sense) (far_area g.sense strip.now.sorted.now.rects.now g.size g.window (P.reach g.step)) g.step (j * g.step) (j * g.starts) g.starts (before, new.old) }
 {
     let reach = P::reach(g.step);
-    let above = j / 2 * g.stride;
     let at = j * g.starts;
     let y = j * g.step;
     let mut sweep = Sweep::start(strip);
     let mut so_far = before;
     for i in 0..g.starts {
-        let flagged = flag_at(flags, above + i / 2);
+        let flagged = flags.above(i, j);
         if flagged {
             so_far.pass_over(new, at + i);
             continue;
@@ -170,12 +170,12 @@ fn row<P: Pass>(
 // All rows.
 pub(crate) fn rows<P: Pass>(
     sorted: &Sorted<'_>,
-    flags: &[bool],
+    flags: Flags<'_>,
     new: &mut [bool],
     g: Grid,
     before: P,
 ) -> P
-    requires passable { Passable sorted.now.rects.now flags.now g (P.best before) }
+    requires passable { Passable sorted.now.rects.now g flags.table.now flags.stride (P.best before) }
     requires few { P.counted before ≡ 0 }
     requires able { P.Able g.sense before }
     ensures { (result, new.new) ≡ rows_seen (P.looked g.sense) (far_area g.sense sorted.now.rects.now g.size g.window (P.reach g.step)) g.step g.starts g.starts (before, new.old) }

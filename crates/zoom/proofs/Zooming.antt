@@ -1,10 +1,10 @@
 -- The run, level by level.
-use Prim.Native.Nat.{ℕ, suc, ◌+◌, ◌-◌, ◌*◌, ◌/◌, ◌^◌, ◌≤◌, ◌<◌, min}
-use mathlib.Core.Path.{◌≡◌, refl, sym, ap, ap₂, ◌∙◌, subst}
+use Prim.Native.Nat.{ℕ, suc, ◌+◌, ◌-◌, ◌*◌, ◌/◌, ◌≤◌, ◌<◌, min}
+use mathlib.Core.Path.{◌≡◌, sym, ap, ap₂, ◌∙◌, subst}
 use mathlib.Core.Bool.{Bool, true, false}
 use mathlib.Core.List.{List, ◌++◌}
 use mathlib.Core.Logic.{◌⊎◌, inl, inr}
-use native.Mathlib.Nat.{div-one, div-le_self}
+use native.Mathlib.Nat.{div-one}
 use native.Mathlib.Numerals.{add-one}
 use native.Mathlib.Omega.{arith}
 use lib.Arith.{digits_lt}
@@ -16,21 +16,21 @@ use Rattle.geometry.specs.declared.Spot.{Spot}
 use Rattle.geometry.specs.declared.Sense.{Sense}
 use Rattle.geometry.specs.Extreme.{spot_at}
 use Rattle.geometry.specs.Positions.{window_area}
-use Rattle.geometry.specs.Sizes.{widest}
 use Rattle.extremes.specs.Exact.{extreme}
 use Rattle.levels.specs.declared.Level.{Level}
-use Rattle.levels.specs.declared.Grid.{Grid}
+use Rattle.levels.specs.declared.grid.Grid.{Grid}
 use Rattle.levels.specs.Levels.{starts_on, far_area, level_of}
 use Rattle.levels.specs.Sizes.{flags_room, starts_room, LevelSmall}
-use Rattle.levels.specs.Grid.{Sized, AtStart}
+use Rattle.levels.specs.Grid.{AtStart}
 use Rattle.levels.specs.Passing.{Harmless, flags_in_rows}
+use Rattle.levels.proofs.PassLoops.{starts_small}
 use Rattle.levels.proofs.TwoPasses.{LevelDone}
 use Rattle.levels.proofs.Starts.{start_stays, half_start}
 use Rattle.levels.proofs.LevelWindows.{level_at_start, level_small}
 use Rattle.levels.proofs.Flagging.{harmless_first, harmless_next}
 use Rattle.zoom.specs.declared.Quick.{Quick}
 use Rattle.zoom.specs.Run.{last_level, level_step, level_at, after_level, exact_end, run_from, quick_run}
-use Rattle.zoom.proofs.Steps.{step_next, step_halves, step_positive}
+use Rattle.zoom.proofs.Steps.{step_next, step_halves}
 use Rattle.zoom.proofs.Bracket.{first_start}
 
 -- ---- flags that were copied
@@ -56,48 +56,44 @@ module _ (s : Sense) (rs : List Rect) (n w t best : ℕ) (from to out : List Boo
 
 -- ---- what holds before each level
 
-pub record RunSoFar (s : Sense) (rs : List Rect) (n w e v : ℕ) (flags : List Bool) (before : Spot) (g : Grid) (j : ℕ) : Type 0 where
+pub record RunSoFar (s : Sense) (rs : List Rect) (n w e v : ℕ) (flags : List Bool) (before : Spot) (stride : ℕ) (g : Grid) (j : ℕ) : Type 0 where
   pub whole : run_from s rs n w e v (last_level w - j) j ≡ quick_run s rs n w e v
   pub level : j ≤ last_level w
   pub step : g.step ≡ level_step w j
   pub follows : level_of s rs n w g.step before ≡ level_at s rs n w j
   pub start : AtStart rs n w g.step before
-  pub spare : Harmless s rs n w g.step flags g.stride before.area
+  pub spare : Harmless s rs n w g.step flags stride before.area
   pub size : length flags ≡ flags_room
   pub sense_is : g.sense ≡ s
   pub size_is : g.size ≡ n
   pub window_is : g.window ≡ w
-  pub count : g.starts ≡ starts_on n w g.step
-  pub few : g.stride ≤ starts_room
-
--- at level 0 the step is the window's side
-whole_step : (w : ℕ) → level_step w 0 ≡ w
-whole_step w = div-one w
+  pub few : stride ≤ starts_room
 
 pub run_begins : (s : Sense) (rs : List Rect) (n w e v : ℕ) (flags : List Bool) (before : Spot) (g : Grid) → before ≡ spot_at (window_area rs w) 0 0 →
-    flags ≡ replicate flags_room false → g ≡ record { sense = s; size = n; window = w; step = w; starts = starts_on n w w; stride = 0 } →
-    RunSoFar s rs n w e v flags before g 0
+    flags ≡ replicate flags_room false → g.sense ≡ s → g.size ≡ n → g.window ≡ w → g.step ≡ w → RunSoFar s rs n w e v flags before 0 g 0
 unfolding quick_run level_at
-run_begins s rs n w e v flags before g k none is =
-    subst (λ (g : Grid). RunSoFar s rs n w e v flags before g 0) (sym is) (record {
+run_begins s rs n w e v flags before g k none sense size window step =
+    record {
       whole = ap (λ (l : ℕ). run_from s rs n w e v l 0) left;
       level = omega arith;
-      step = sym (whole_step w);
-      follows = ap₂ (λ (t : ℕ) (b : Spot). level_of s rs n w t b) (sym (whole_step w)) k;
-      start = subst (λ (b : Spot). AtStart rs n w w b) (sym k) (subst (λ (t : ℕ). AtStart rs n w t (spot_at (window_area rs w) 0 0)) (whole_step w) (first_start rs n w));
-      spare = subst (λ (l : List Bool). Harmless s rs n w w l 0 before.area) (sym none) (harmless_first s rs n w w 0 flags_room before.area);
+      step = first;
+      follows = ap₂ (λ (t : ℕ) (b : Spot). level_of s rs n w t b) first k;
+      start = rw (k, first) (first_start rs n w);
+      spare = rw none (harmless_first s rs n w g.step 0 flags_room before.area);
       size = ap length none ∙ length-replicate {A = Bool} flags_room false;
-      sense_is = refl;
-      size_is = refl;
-      window_is = refl;
-      count = refl;
+      sense_is = sense;
+      size_is = size;
+      window_is = window;
       few = omega arith;
-    })
+    }
   where
     left : last_level w - 0 ≡ last_level w
     left = omega arith
 
-module _ {s : Sense} {rs : List Rect} {n w e v : ℕ} {flags : List Bool} {before : Spot} {g : Grid} {j : ℕ} (so_far : RunSoFar s rs n w e v flags before g j) (p : 1 ≤ w) where
+    first : g.step ≡ level_step w 0
+    first = step ∙ sym (div-one w)
+
+module _ {s : Sense} {rs : List Rect} {n w e v : ℕ} {flags : List Bool} {before : Spot} {stride : ℕ} {g : Grid} {j : ℕ} (so_far : RunSoFar s rs n w e v flags before stride g j) where
   -- what the code sees of a level is level j of the run
   pub run_level : level_of g.sense rs g.size g.window g.step before ≡ level_at s rs n w j
   run_level = rw (so_far.sense_is, so_far.size_is, so_far.window_is) so_far.follows
@@ -105,28 +101,12 @@ module _ {s : Sense} {rs : List Rect} {n w e v : ℕ} {flags : List Bool} {befor
   pub run_start : AtStart rs g.size g.window g.step before
   run_start = rw (so_far.size_is, so_far.window_is) so_far.start
 
-  pub run_spares : Harmless g.sense rs g.size g.window g.step flags g.stride before.area
+  pub run_spares : Harmless g.sense rs g.size g.window g.step flags stride before.area
   run_spares = rw (so_far.sense_is, so_far.size_is, so_far.window_is) so_far.spare
 
-  some_step : 1 ≤ g.step
-  some_step = omega (arith, so_far.step, step_positive w j p so_far.level)
-
-  pub run_sized : w ≤ n → n ≤ widest → Sized g
-  run_sized q small =
-      record {
-        small = omega (arith, so_far.size_is);
-        inside = omega (arith, so_far.size_is, so_far.window_is);
-        some_step = some_step;
-        step_fits = omega (arith, so_far.step, so_far.window_is, div-le_self w (2 ^ j));
-        count = so_far.count ∙ ap₂ (λ (n w : ℕ). starts_on n w g.step) (sym so_far.size_is) (sym so_far.window_is);
-        few_above = so_far.few;
-      }
-
   -- the numbers of a level fit the tests after it
-  pub run_small : (this : Level) → w ≤ n → n ≤ widest → this ≡ level_of g.sense rs g.size g.window g.step before → LevelSmall this
-  run_small this q small h =
-      subst LevelSmall (sym h)
-      (level_small g.sense rs g.size g.window g.step before (omega (arith, so_far.size_is)) (omega (arith, so_far.size_is, so_far.window_is)) some_step run_start)
+  pub run_small : (this : Level) → this ≡ level_of g.sense rs g.size g.window g.step before → LevelSmall this
+  run_small this h = subst LevelSmall (sym h) (level_small g.sense rs g.size g.window g.step before g.small g.inside g.some_step run_start)
 
   -- the run from level j on, by what follows level j
   pub run_on : (this : Level) → this ≡ level_of g.sense rs g.size g.window g.step before → j < last_level w →
@@ -163,32 +143,35 @@ module _ {s : Sense} {rs : List Rect} {n w e v : ℕ} {flags : List Bool} {befor
     even = omega (arith, so_far.step, step_halves w j l, step_next w j)
 
     pub some_half : 1 ≤ g.step / 2
-    some_half = omega (arith, even, some_step)
+    some_half = omega (arith, even, g.some_step)
+
+    counted : g.starts ≡ starts_on n w (2 * (g.step / 2))
+    counted = g.count ∙ rw (so_far.size_is, so_far.window_is) (ap (starts_on n w) even)
 
     pub run_goes_on : (this : Level) (new new' copied : List Bool) (used : ℕ) (next : Grid) →
-        LevelDone g.sense rs g.size g.window g.step before this new new' → run_from s rs n w e v (last_level w - (j + 1)) (j + 1) ≡ quick_run s rs n w e v → length new' ≡ flags_room →
-        copied ≡ take used new' ++ drop used flags → length copied ≡ flags_room → used ≡ min (g.starts * g.starts) flags_room →
-        g.starts ≤ starts_room → next ≡ record g { step = g.step / 2; starts = starts_on g.size g.window (g.step / 2); stride = g.starts } →
-        RunSoFar s rs n w e v copied this.named next (j + 1)
+        LevelDone g.sense rs g.size g.window g.step before this new new' → run_from s rs n w e v (last_level w - (j + 1)) (j + 1) ≡ quick_run s rs n w e v →
+        length new' ≡ flags_room → copied ≡ take used new' ++ drop used flags → length copied ≡ flags_room → used ≡ min (g.starts * g.starts) flags_room →
+        next.sense ≡ s → next.size ≡ n → next.window ≡ w → next.step ≡ g.step / 2 →
+        RunSoFar s rs n w e v copied this.named g.starts next (j + 1)
     unfolding level_at
-    run_goes_on this new new' copied used next d whole new_size copy size fits few is =
-        subst (λ (g : Grid). RunSoFar s rs n w e v copied this.named g (j + 1)) (sym is) (record {
+    run_goes_on this new new' copied used next d whole new_size copy size fits sense_is size_is window_is step_is =
+        record {
           whole = whole;
           level = omega arith;
-          step = half ∙ ap (λ (i : ℕ). level_step w i) (sym (add-one j));
+          step = step_is ∙ half ∙ ap (λ (i : ℕ). level_step w i) (sym (add-one j));
           follows =
-              ap₂ (λ (u : ℕ) (b : Level). level_of s rs n w u b.named) half (d.answer ∙ run_level) ∙ ap (level_at s rs n w) (sym (add-one j));
-          start = start_stays rs n w (g.step / 2) this.named some_half (subst (λ (u : ℕ). AtStart rs n w u this.named) even stands);
+              ap₂ (λ (u : ℕ) (b : Level). level_of s rs n w u b.named) (step_is ∙ half) (d.answer ∙ run_level) ∙ ap (level_at s rs n w) (sym (add-one j));
+          start = rw step_is (start_stays rs n w (g.step / 2) this.named some_half (subst (λ (u : ℕ). AtStart rs n w u this.named) even stands));
           spare =
-              harmless_copied s rs n w (g.step / 2) this.named.area new' flags copied g.starts used some_half (so_far.count ∙ ap (starts_on n w) even)
-              (fits ∙ ap (min (g.starts * g.starts)) (sym size)) (new_size ∙ sym size) copy (rw so_far.count spare);
+              rw step_is
+              (harmless_copied s rs n w (g.step / 2) this.named.area new' flags copied g.starts used some_half counted
+              (fits ∙ ap (min (g.starts * g.starts)) (sym size)) (new_size ∙ sym size) copy (rw counted spare));
           size = size;
-          sense_is = so_far.sense_is;
-          size_is = so_far.size_is;
-          window_is = so_far.window_is;
-          count = ap₂ (λ (n w : ℕ). starts_on n w (g.step / 2)) so_far.size_is so_far.window_is;
-          few = few;
-        })
+          sense_is = sense_is;
+          size_is = size_is;
+          window_is = window_is;
+          few = starts_small g;
+        }
       where
         done : LevelDone s rs n w g.step before this new new'
         done = rw (so_far.sense_is, so_far.size_is, so_far.window_is) at d
@@ -196,9 +179,10 @@ module _ {s : Sense} {rs : List Rect} {n w e v : ℕ} {flags : List Bool} {befor
         stands : AtStart rs n w g.step this.named
         stands = subst (λ (u : Level). AtStart rs n w g.step u.named) (sym done.answer) (level_at_start s rs n w g.step before so_far.start)
 
-        spare : Harmless s rs n w (g.step / 2) new' (starts_on n w g.step) this.named.area
+        spare : Harmless s rs n w (g.step / 2) new' (starts_on n w (2 * (g.step / 2))) this.named.area
         spare =
-            subst (λ (l : List Bool). Harmless s rs n w (g.step / 2) l (starts_on n w g.step) this.named.area) (sym done.flags)
+            subst (λ (l : List Bool). Harmless s rs n w (g.step / 2) l (starts_on n w (2 * (g.step / 2))) this.named.area) (sym done.flags)
             (subst
-            (λ (u : ℕ). Harmless s rs n w (g.step / 2) (flags_in_rows s this.named.area (far_area s rs n w u) u (starts_on n w u) (starts_on n w u) new) (starts_on n w u) this.named.area)
+            (λ (u : ℕ). Harmless s rs n w (g.step / 2) (flags_in_rows s this.named.area (far_area s rs n w u) u (starts_on n w u) (starts_on n w u) new)
+            (starts_on n w (2 * (g.step / 2))) this.named.area)
             (sym even) (harmless_next s rs n w (g.step / 2) this.named.area new some_half))

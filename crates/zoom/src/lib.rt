@@ -3,16 +3,14 @@
 
 mod ending;
 
-ghost use Rattle.std.specs.Prelude.{◌/◌, ◌≡◌, length, replicate, false};
+ghost use Rattle.std.specs.Prelude.{◌≡◌, length, replicate, false};
 ghost use Rattle.levels.specs.Sizes.{flags_room};
-ghost use Rattle.levels.specs.Levels.{starts_on};
-ghost use Rattle.levels.specs.Grid.{Countable};
 ghost use Rattle.zoom.specs.Run.{quick_run, density};
 ghost use Rattle.zoom.specs.Sizes.{Runnable, Measurable};
 
 use ending::{exact_end, last_level, over};
 use geometry::{Sense, Spot};
-use levels::{Grid, Level, MOST_FLAGS, flag_count, search_level, starts_on};
+use levels::{Flags, Grid, Level, MOST_FLAGS, flag_count, search_level};
 use sweep::Sorted;
 
 // What is asked of a quick run: the layout's side N, the window's side W, the
@@ -70,48 +68,23 @@ fn run_levels(
 {
     let last = last_level(asked.window);
     let mut before = extremes::first_window(sorted.rects, asked.window);
-    let mut grid = first_grid(sense, asked.size, asked.window);
+    let mut grid = Grid::new(sense, asked.size, asked.window, asked.window);
+    let mut stride = 0;
     for j in 0..last {
-        let this = search_level(sorted, old, new, grid, before);
+        let flags = Flags { table: old, stride };
+        let this = search_level(sorted, flags, new, grid, before);
         if let Some(answer) = over(sense, asked, j, this) {
             return answer;
         }
         let used = flag_count(grid.starts);
         old[..used].copy_from_slice(&new[..used]);
         before = this.named;
-        grid = finer(grid);
+        stride = grid.starts;
+        grid = Grid::new(sense, asked.size, asked.window, grid.step / 2);
     }
-    let this = search_level(sorted, old, new, grid, before);
+    let flags = Flags { table: old, stride };
+    let this = search_level(sorted, flags, new, grid, before);
     over(sense, asked, last, this).unwrap_or(exact_end(sense, last, this.named, m))
-}
-
-// The starts of level 0, which has none before it.
-fn first_grid(sense: Sense, size: u64, window: u64) -> Grid
-    requires { Countable size window window }
-    ensures { result ≡ record { sense = sense; size = size; window = window; step = window; starts = starts_on size window window; stride = 0 } }
-{
-    Grid {
-        sense,
-        size,
-        window,
-        step: window,
-        starts: starts_on(size, window, window),
-        stride: 0,
-    }
-}
-
-// The starts of the next level, at half the step.
-fn finer(grid: Grid) -> Grid
-    requires { Countable grid.size grid.window (grid.step / 2) }
-    ensures { result ≡ record grid { step = grid.step / 2; starts = starts_on grid.size grid.window (grid.step / 2); stride = grid.starts } }
-{
-    let step = grid.step / 2;
-    Grid {
-        step,
-        starts: starts_on(grid.size, grid.window, step),
-        stride: grid.starts,
-        ..grid
-    }
 }
 
 // The density of a bracket, in ten-thousandths, rounded.

@@ -11,24 +11,19 @@ use Rattle.levels.proofs.search_level.Goals as goal
 pub rows-requires-clause-passable : goal.rows-requires-clause-passable
 rows-requires-clause-passable c =
     let a = c.args in
-    let p = c.requires.passable in
     let rs = a.sorted.now.rects.now in
-    record {
-      sized = p.sized;
-      spare = harmless_on a.g.sense rs a.g a.flags.now a.g.stride a.before _ (first_names rs a.g p.sized a.before _ _ _ c.rows-named.ensures) p.spare;
-    }
+    harmless_on a.g.sense rs a.g a.flags.table.now a.flags.stride a.before _ (first_names rs a.g a.before _ _ _ c.rows-named.ensures) c.requires.passable
 
 pub returns : goal.returns
 returns c =
     let a = c.args in
-    let z = c.requires.passable.sized in
     let rs = a.sorted.now.rects.now in
     let first = c.rows-named in
     let start : List Bool → Level × List Bool = λ l. (record { named = first.result; limit = first.result.area; kept = 0 }, l) in
     let done =
-    level_done a.g.sense rs a.g a.before first.result c.rows.result a.new.now _ z c.requires.at_start
-    (first_names rs a.g z a.before _ _ _ first.ensures)
+    level_done a.g.sense rs a.g a.before first.result c.rows.result a.new.now _ c.requires.at_start
+    (first_names rs a.g a.before _ _ _ first.ensures)
     (c.rows.ensures
     ∙ ap (λ (l : List Bool). rows_seen (weighed_at a.g.sense) (far_area a.g.sense rs a.g.size a.g.window a.g.step) a.g.step a.g.starts a.g.starts (start l))
-    (first_leaves rs a.g z a.before _ _ _ first.ensures)) in
+    (first_leaves rs a.g a.before _ _ _ first.ensures)) in
     record { value = done.answer; after = done.flags }

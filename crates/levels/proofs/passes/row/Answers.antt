@@ -28,12 +28,12 @@ loop-i-preserved-then-flagged g c =
           row_skips laws _ _ _ _ _ _ _ _ so_far _
           (λ seen. c.pass_over.ensures _ seen (row_asks laws _ _ _ _ _ _ _ _ so_far c.requires.able))
           (less_reach _ _ _ _ _ _ _ _ _ c.reach-reach.ensures.within
-          (c.requires.passable.spare at.i (rw c.requires.passable.sized.count at c.loop-i-test.true) (sym c.flag_at-flagged.ensures ∙ c.if-flagged.true)));
+          (c.requires.passable at.i (rw c.args.g.count at c.loop-i-test.true) (sym c.above-flagged.ensures ∙ c.if-flagged.true)));
     }
 
 pub look-so_far-requires-clause-few : goal.look-so_far-requires-clause-few
 look-so_far-requires-clause-few g c =
-    row_few g.P.Pass.laws _ _ _ _ _ _ _ _ c.loop-i.invariant.so_far c.requires.few (omega (arith, starts_small c.args.g c.requires.passable.sized))
+    row_few g.P.Pass.laws _ _ _ _ _ _ _ _ c.loop-i.invariant.so_far c.requires.few (omega (arith, starts_small c.args.g))
 
 pub look-so_far-requires-clause-able : goal.look-so_far-requires-clause-able
 look-so_far-requires-clause-able g c = row_asks g.P.Pass.laws _ _ _ _ _ _ _ _ c.loop-i.invariant.so_far c.requires.able

@@ -11,22 +11,16 @@ loop-j-init g c = record { along = c.new-strip.ensures; so_far = refl }
 
 pub row-so_far-requires-clause-few : goal.row-so_far-requires-clause-few
 row-so_far-requires-clause-few g c =
-    rows_few g.P.Pass.laws _ _ _ _ _ _ _ c.loop-j.invariant.so_far c.requires.few (row_place c.args.g c.loop-j.j c.requires.passable.sized (omega (arith, c.loop-j-test.true)))
+    rows_few g.P.Pass.laws _ _ _ _ _ _ _ c.loop-j.invariant.so_far c.requires.few (row_place c.args.g c.loop-j.j (omega (arith, c.loop-j-test.true)))
 
 pub row-so_far-requires-clause-able : goal.row-so_far-requires-clause-able
 row-so_far-requires-clause-able g c = rows_ask g.P.Pass.laws _ _ _ _ _ _ _ c.loop-j.invariant.so_far c.requires.able
 
 pub row-so_far-requires-clause-passable : goal.row-so_far-requires-clause-passable
 row-so_far-requires-clause-passable g c =
-    let p = c.requires.passable in
     let along : c.set_rows.new.self.sorted.now ≡ c.args.sorted.now = c.set_rows.ensures.sorted ∙ c.loop-j.invariant.along in
     rw along
-    (record {
-      sized = p.sized;
-      within = c.loop-j-test.true;
-      spare = λ i h e.
-          rows_no_better g.P.Pass.laws _ _ _ _ _ _ _ c.loop-j.invariant.so_far _ (p.spare c.loop-j.j (rw p.sized.count at c.loop-j-test.true) i h e);
-    })
+    (λ i h e. rows_no_better g.P.Pass.laws _ _ _ _ _ _ _ c.loop-j.invariant.so_far _ (c.requires.passable c.loop-j.j (rw c.args.g.count at c.loop-j-test.true) i h e))
 
 pub loop-j-preserved : goal.loop-j-preserved
 loop-j-preserved g c =
