@@ -34,9 +34,3 @@ fits_short (n ∷ ns) h = (number_length n (h 0), fits_short ns (λ i. h (suc i)
 
 pub spell_fits : (p ns : List ℕ) → ((i : ℕ) → Fits w64 (get_or ns i 0)) → length (spell p ns) ≤ length p + number_room * length ns
 spell_fits p ns h = spell_length p ns (fits_short ns (λ i. (h i).fits))
-
--- a pattern with no numbers is written as it stands
-pub spell_bare : (p : List ℕ) → spell p [] ≡ p
-unfolding spell
-spell_bare [] = refl
-spell_bare (c ∷ p) = ap (λ (s : List ℕ). c ∷ s) (spell_bare p)

@@ -20,7 +20,8 @@ pub(crate) fn reached_box(w: u64, b: Rect) -> Rect
     }
 }
 
-// The squares that every window from the box has, its far sides included.
+// The squares that every window from the box has, its far sides included. As one
+// function with the one above, told which sides to take, it would be no plainer.
 pub(crate) fn shared_box(w: u64, b: Rect) -> Rect
     requires { (w ≤ widest) × FullBox b }
     ensures { result ≡ shared w b }

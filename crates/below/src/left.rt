@@ -29,8 +29,8 @@ pub(crate) fn all_places(rects: &[Rect]) -> Places
     ensures all { listed_rects rects.now result.items ≡ rects.now }
 {
     let mut places = ArrayVec::new();
-    for place in 0..rects.len() {
-        places.push(place as u16);
+    for place in 0..rects.len() as u16 {
+        places.push(place);
     }
     places
 }

@@ -5,12 +5,10 @@ use mathlib.Core.Bool.{Bool, true, false}
 use mathlib.Core.Logic.{◌⊎◌, inl, inr}
 use mathlib.Core.List.Memᴰ
 use mathlib.Core.List.{List, [], ◌∷◌, ◌++◌, Memᴰ}
-use native.Mathlib.Nat.{le_trans}
 use native.Mathlib.Omega.{arith}
 use lib.Dec.{leb, eqb}
-use lib.ListN.{get_or}
+use Rattle.std.specs.Prelude.{All}
 use borrow.Author.Tests.{le-leb, leb-true, eqb-true}
-use Rattle.geometry.specs.Sizes.{widest}
 use Rattle.geometry.specs.declared.Rect.{Rect}
 use Rattle.geometry.specs.declared.Sense.{Sense}
 use Rattle.std.specs.List.{fold}
@@ -114,11 +112,11 @@ module _ (s : Sense) (last w : ℕ) where
   unfolding candidates
   candidates_within rs = sides_within rs _ (position_within last last (0 ∷ []) (λ q m. omega (arith, Memᴰ.eq_of_singleton m)))
 
-at_most : (last : ℕ) (l : List ℕ) → ((q : ℕ) → Memᴰ q l → q ≤ last) → (i : ℕ) → get_or l i 0 ≤ last
-at_most last [] all i = omega arith
-at_most last (p ∷ l) all zero = all p (Memᴰ.head refl)
-at_most last (p ∷ l) all (suc i) = at_most last l (λ q m. all q (Memᴰ.tail m)) i
-
--- so 64 bits hold a listed row with the window's side added
-pub candidate_small : (s : Sense) (last w : ℕ) (rs : List Rect) (ys : List ℕ) (i : ℕ) → ys ≡ candidates s last w rs → last ≤ widest → get_or ys i 0 ≤ widest
-candidate_small s last w rs ys i e h = rw e (le_trans (at_most last (candidates s last w rs) (candidates_within s last w rs) i) h)
+-- each row that is listed is a position
+pub rows_within : (s : Sense) (last w : ℕ) (rs : List Rect) → All (λ y. y ≤ last) (candidates s last w rs)
+rows_within s last w rs = all (candidates s last w rs) (candidates_within s last w rs)
+  where
+    all : (l : List ℕ) → ((q : ℕ) → Memᴰ q l → q ≤ last) → All (λ y. y ≤ last) l
+    all [] h i d k = absurd (omega arith)
+    all (p ∷ l) h zero d k = h p (Memᴰ.head refl)
+    all (p ∷ l) h (suc i) d k = all l (λ q m. h q (Memᴰ.tail m)) i d (omega arith)

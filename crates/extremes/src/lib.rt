@@ -11,16 +11,16 @@ mod listing;
 mod search;
 mod searching;
 
-ghost use Rattle.std.specs.Prelude.{◌≡◌};
+ghost use Rattle.std.specs.Prelude.{◌≤◌, ◌≡◌};
+ghost use Rattle.geometry.specs.Sizes.{widest};
 ghost use Rattle.geometry.specs.Layout.{Layer};
 ghost use Rattle.geometry.specs.Extreme.{spot_at};
 ghost use Rattle.geometry.specs.Positions.{window_area};
 ghost use Rattle.extremes.specs.Exact.{extreme, exact_run};
-ghost use Rattle.extremes.specs.Search.{Searchable};
 
 use geometry::{Rect, Sense, Spot};
 use search::{Row, Search};
-use sweep::STRIP_ROOM;
+use sweep::{Sorted, Strip};
 
 // The exact run's answer: the greatest and the least window.
 #[derive(Clone, Copy)]
@@ -43,28 +43,35 @@ pub fn first_window(rects: &[Rect], w: u64) -> Spot
 }
 
 // The extreme over all positions, with its window of least y, then least x.
-fn find_extreme(rects: &[Rect], order: &[usize], n: u64, w: u64, sense: Sense) -> Spot
-    requires { Searchable rects.now order.now n w }
-    ensures { result ≡ extreme sense rects.now n w }
+fn find_extreme(sorted: &Sorted<'_>, n: u64, w: u64, sense: Sense) -> Spot
+    requires fits { w ≤ n }
+    requires small { n ≤ widest }
+    ensures { result ≡ extreme sense sorted.now.rects.now n w }
 {
     let last = n - w;
     let search = Search { sense, w, last };
-    let mut sides = [0u64; STRIP_ROOM];
-    let mut best = first_window(rects, w);
-    let rows = listing::list_rows(rects, search);
+    let mut strip = Strip::new(sorted);
+    let mut best = first_window(sorted.rects, w);
+    let rows = listing::list_rows(sorted.rects, search);
     for &y in rows.as_slice() {
-        best = searching::search_row(rects, order, Row { search, y }, best, &mut sides);
+        strip.set_rows(y, y + w);
+        let row = Row {
+            search,
+            strip: &strip,
+        };
+        best = searching::search_row(row, best);
     }
     best
 }
 
-// The exact run. The order of the sides is lent, since a job's other runs take it
+// The exact run. The sorted rectangles are lent, since a job's other runs take them
 // too.
-pub fn exact_run(rects: &[Rect], order: &[usize], n: u64, w: u64) -> Extremes
-    requires { Searchable rects.now order.now n w }
-    ensures { result ≡ exact_run rects.now n w }
+pub fn exact_run(sorted: &Sorted<'_>, n: u64, w: u64) -> Extremes
+    requires fits { w ≤ n }
+    requires small { n ≤ widest }
+    ensures { result ≡ exact_run sorted.now.rects.now n w }
 {
-    let greatest = find_extreme(rects, order, n, w, Sense::Greatest);
-    let least = find_extreme(rects, order, n, w, Sense::Least);
+    let greatest = find_extreme(sorted, n, w, Sense::Greatest);
+    let least = find_extreme(sorted, n, w, Sense::Least);
     Extremes { greatest, least }
 }

@@ -1,5 +1,5 @@
 // The rows that are tried.
-ghost use Rattle.std.specs.Prelude.{◌+◌, ◌<◌, ◌≤◌, ◌≡◌, length};
+ghost use Rattle.std.specs.Prelude.{◌+◌, ◌<◌, ◌≤◌, ◌≡◌, length, All};
 ghost use Rattle.arrayvec.specs.ArrayVec.{array_vec_len};
 ghost use Rattle.geometry.specs.Sizes.{most_rects};
 ghost use Rattle.extremes.specs.Listing.{near_of, far_of, with_position, with_end, with_sides, candidates};
@@ -57,7 +57,8 @@ fn add_sides(rows: &mut ArrayVec<u64, ROWS_ROOM>, r: Rect, search: Search)
 // Lists the rows that are tried.
 pub(crate) fn list_rows(rects: &[Rect], search: Search) -> ArrayVec<u64, ROWS_ROOM>
     requires { length rects.now ≤ most_rects }
-    ensures { result.items ≡ candidates search.sense search.last search.w rects.now }
+    ensures rows { result.items ≡ candidates search.sense search.last search.w rects.now }
+    ensures within { All (λ y. y ≤ search.last) result.items }
 {
     let mut rows = ArrayVec::new();
     rows.push(0);

@@ -5,7 +5,6 @@ use mathlib.Core.List.{List}
 use mathlib.Core.Logic.{◌⊎◌, inl, inr}
 use native.Mathlib.Numerals.{add-one}
 use native.Mathlib.Omega.{arith}
-use lib.ListN.{length}
 use Rattle.laws.proofs.Tests.{le_or_lt}
 use Rattle.geometry.specs.Count.{span, box_sum}
 use Rattle.geometry.specs.declared.Rect.{Rect}
@@ -14,12 +13,11 @@ use Rattle.tiles.specs.declared.Plan.{Plan}
 use Rattle.tiles.specs.Tiles.{TileBox, number_at, load}
 use Rattle.fill.specs.Judge.{standard_tiles, bloated_tiles, shrunk_tiles, failing_at, starts_across, standard_failing, margin_failing, judged, verdict_of}
 use Rattle.fill.specs.Windows.{rule_of, tiles_for_upper, tiles_for_lower, failing_by, search_by, IsStart}
-use Rattle.tiles.specs.Sums.{load_of, TilesInLayout, Filled, corner_total, Summed, CornersOf, CornerSums}
-use Rattle.tiles.specs.Sizes.{Tiled}
+use Rattle.tiles.specs.Sums.{Tabled, load_of, TilesInLayout, corner_total, CornersOf}
 use Rattle.fill.proofs.Starts.{rows_cong}
 use Rattle.fill.proofs.Windows.{upper_inside, lower_inside}
-use Rattle.tiles.proofs.Loads.{table_light, box_load}
-use Rattle.tiles.proofs.Summing.{same_tiles, corner_sums, corner_total_lem}
+use Rattle.tiles.proofs.Loads.{box_load}
+use Rattle.tiles.proofs.Summing.{corner_total_lem}
 
 -- ---- the search by the load of a box, and the verdict's definition
 
@@ -77,19 +75,9 @@ module _ (loads : ℕ → ℕ → ℕ) (plan : Plan) (total : TileBox → ℕ) (
 
 -- ---- the verdict by corner sums
 
-module _ (rects : List Rect) {amounts : List ℕ} {plan : Plan} {before table sums : List ℕ}
-    (f : Filled (load_of rects amounts plan) before table 0 (plan.across * plan.across)) (t : Tiled amounts plan)
-    (full : plan.across * plan.across ≤ length before) (s : Summed table sums plan.across plan.across) where
-  summed : CornersOf (number_at table plan.across) sums plan.across
-  summed =
-      let w = table_light rects amounts plan before table f t full in
-      record { tiles = same_tiles table sums plan.across w.tiles s.size; light = w.light; corners = s.corners }
-
-  pub plan_sums : CornerSums sums plan.across
-  plan_sums = corner_sums summed
-
-  pub sums_verdict : plan.cut ≤ plan.across → let total = corner_total sums plan.across in
-      judged (search_by total (rule_of plan) plan.across 0) (search_by total (rule_of plan) plan.across 1) ≡ verdict_of rects amounts plan
-  sums_verdict h =
-      search_verdict (load rects amounts plan) plan (corner_total sums plan.across)
-      (λ b k. corner_total_lem summed k ∙ box_load rects amounts plan before table f b k) h
+pub sums_verdict : (rects : List Rect) (amounts : List ℕ) (plan : Plan) {table sums : List ℕ} →
+    Tabled (load_of rects amounts plan) (plan.across * plan.across) table → CornersOf (number_at table plan.across) sums plan.across → plan.cut ≤ plan.across →
+    let total = corner_total sums plan.across in
+    judged (search_by total (rule_of plan) plan.across 0) (search_by total (rule_of plan) plan.across 1) ≡ verdict_of rects amounts plan
+sums_verdict rects amounts plan {sums = sums} t s h =
+    search_verdict (load rects amounts plan) plan (corner_total sums plan.across) (λ b k. corner_total_lem s k ∙ box_load rects amounts plan t b k) h

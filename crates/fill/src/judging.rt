@@ -22,19 +22,19 @@ pub(crate) struct Rule {
 // are held to the windows themselves, or with a margin of a tile.
 #[derive(Clone, Copy)]
 pub(crate) struct Windows<'a> {
-    pub loads: Corners<'a>,
+    pub loads: &'a Corners,
     pub rule: Rule,
     pub margin: u64,
     ghost thin: { margin ≤ 1 },
-    ghost fits: { rule.cut ≤ loads.across },
+    ghost fits: { rule.cut ≤ loads.now.across },
 }
 
 impl Windows<'_> {
     // The tiles whose load the upper bound is held to, a box that counts in tiles:
     // those of the window at a start, and `margin` more, cut off at the edge.
     fn tiles_for_upper(self, column: u64, row: u64) -> Rect
-        requires { IsStart self.rule self.loads.across column row }
-        ensures { result ≡ tiles_for_upper self.entry.rule self.entry.loads.across self.entry.margin column row }
+        requires { IsStart self.rule self.loads.now.across column row }
+        ensures { result ≡ tiles_for_upper self.entry.rule self.entry.loads.now.across self.entry.margin column row }
     {
         Rect {
             x1: column,
@@ -48,7 +48,7 @@ impl Windows<'_> {
     // those of the window at a start, less the first `margin`, if it has so many: a
     // box never ends before it begins.
     fn tiles_for_lower(self, column: u64, row: u64) -> Rect
-        requires { IsStart self.rule self.loads.across column row }
+        requires { IsStart self.rule self.loads.now.across column row }
         ensures { result ≡ tiles_for_lower self.entry.rule self.entry.margin column row }
     {
         Rect {
@@ -61,8 +61,8 @@ impl Windows<'_> {
 
     // The bound that the windows of a start fail.
     fn failing_at(self, column: u64, row: u64) -> Option<Failure>
-        requires { IsStart self.rule self.loads.across column row }
-        ensures { let w = self.entry in result ≡ failing_by (corner_total w.loads.sums.now w.loads.across) w.rule w.loads.across w.margin column row }
+        requires { IsStart self.rule self.loads.now.across column row }
+        ensures { let w = self.entry in result ≡ failing_by (corner_total w.loads.now.sums.items w.loads.now.across) w.rule w.loads.now.across w.margin column row }
     {
         let outer = self.loads.load(self.tiles_for_upper(column, row));
         let inner = self.loads.load(self.tiles_for_lower(column, row));
@@ -71,8 +71,8 @@ impl Windows<'_> {
 
     // The first failing start of a row.
     fn failing_in_row(self, row: u64) -> Option<Failure>
-        requires { IsStart self.rule self.loads.across 0 row }
-        ensures { let w = self.entry in result ≡ first_of (λ column. failing_by (corner_total w.loads.sums.now w.loads.across) w.rule w.loads.across w.margin column row) (suc (w.loads.across - w.rule.cut)) }
+        requires { IsStart self.rule self.loads.now.across 0 row }
+        ensures { let w = self.entry in result ≡ first_of (λ column. failing_by (corner_total w.loads.now.sums.items w.loads.now.across) w.rule w.loads.now.across w.margin column row) (suc (w.loads.now.across - w.rule.cut)) }
     {
         let last = self.loads.across - self.rule.cut;
         (0..=last).find_map(|column| self.failing_at(column, row))
@@ -80,7 +80,7 @@ impl Windows<'_> {
 
     // The first failing start, rows in order, in a row columns in order.
     pub fn first_failing(self) -> Option<Failure>
-        ensures { let w = self.entry in result ≡ search_by (corner_total w.loads.sums.now w.loads.across) w.rule w.loads.across w.margin }
+        ensures { let w = self.entry in result ≡ search_by (corner_total w.loads.now.sums.items w.loads.now.across) w.rule w.loads.now.across w.margin }
     {
         let last = self.loads.across - self.rule.cut;
         (0..=last).find_map(|row| self.failing_in_row(row))
@@ -104,9 +104,9 @@ fn failed(rule: Rule, column: u64, row: u64, outer: u64, inner: u64) -> Option<F
 }
 
 // The verdict on the loads of all tiles.
-pub(crate) fn judge_loads(loads: Corners, rule: Rule) -> Verdict
-    requires { rule.cut ≤ loads.across }
-    ensures { let l = loads.entry in let total = corner_total l.sums.now l.across in result ≡ judged (search_by total rule l.across 0) (search_by total rule l.across 1) }
+pub(crate) fn judge_loads(loads: &Corners, rule: Rule) -> Verdict
+    requires { rule.cut ≤ loads.now.across }
+    ensures { let across = loads.now.across in let total = corner_total loads.now.sums.items across in result ≡ judged (search_by total rule across 0) (search_by total rule across 1) }
 {
     let standard = Windows {
         loads,

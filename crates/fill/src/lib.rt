@@ -8,7 +8,7 @@ ghost use Rattle.fill.specs.Sizes.{Planned};
 mod judging;
 
 use sweep::Sorted;
-use tiles::{Corners, Plan, TILES_ROOM, set_loads, sum_rows};
+use tiles::{Corners, Plan, tile_loads};
 
 // The bound that a window fails: over says that U fails, under that L does.
 #[derive(Clone, Copy)]
@@ -38,17 +38,12 @@ pub fn judge(sorted: &Sorted, amounts: &[u64], plan: Plan) -> Verdict
     requires { Planned amounts.now plan }
     ensures { result ≡ verdict_of sorted.now.rects.now amounts.now plan }
 {
-    let mut table = [0u64; TILES_ROOM];
-    set_loads(sorted, amounts, plan, &mut table);
-    sum_rows(plan.across, &mut table);
-    let loads = Corners {
-        sums: &table,
-        across: plan.across,
-    };
+    let loads = tile_loads(sorted, amounts, plan);
+    let corners = Corners::of(&loads, plan.across);
     let rule = judging::Rule {
         cut: plan.cut,
         low: plan.lower * plan.window * plan.window,
         high: plan.upper * plan.window * plan.window,
     };
-    judging::judge_loads(loads, rule)
+    judging::judge_loads(&corners, rule)
 }

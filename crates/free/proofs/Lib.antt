@@ -1,4 +1,3 @@
-pub mod Boxes
 pub mod Held
 pub mod RegionTables
 pub mod Places

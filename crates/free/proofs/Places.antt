@@ -106,16 +106,6 @@ pub record KeptSoFar (l : Left) (lead : ℕ) (c : Region) (own : List ℕ) (i : 
   pub led : Contains (take i l.places.now) lead → HoldsIn l.bounds (holds_square c) (held_by (at_places l.regions.now own))
   pub divisible : 0 < length own → Divisible l.bounds
 
-pub keeping_starts : (l : Left) (lead : ℕ) (c : Region) → KeptSoFar l lead c [] 0
-keeping_starts l lead c =
-    record {
-      few = omega arith;
-      listed = λ i d q. absurd (omega arith);
-      same = λ x y p q r s. refl;
-      led = λ h. absurd (omega (arith, h.1));
-      divisible = λ q. absurd (omega arith);
-    }
-
 module _ (l : Left) (lead : ℕ) (c : Region) (own : List ℕ) (i : ℕ) (z : KeptSoFar l lead c own i) (there : At l.regions.now lead c) where
   abbrev t : List Region
   t = l.regions.now
@@ -126,17 +116,17 @@ module _ (l : Left) (lead : ℕ) (c : Region) (own : List ℕ) (i : ℕ) (z : Ke
   abbrev b : Rect
   b = l.bounds
 
-  pub keeping_ends : Contains ps lead → i ≡ length ps → Enough l own
-  keeping_ends h e =
+  pub keeping_ends : (left : Left) → left.bounds ≡ b → left.regions.now ≡ t → left.places.now ≡ own → Contains ps lead → i ≡ length ps → Enough l left
+  keeping_ends left eb et eo h e =
       record {
-        few = omega (arith, z.few, e);
-        listed = z.listed;
+        bounds = eb;
         same = λ x y p q r s.
-            sym (or_absorbs (held_by (at_places t own) x y) (holds_square c x y) (z.led (rw all h) x y p q r s))
+            rw (et, eo)
+            (sym (or_absorbs (held_by (at_places t own) x y) (holds_square c x y) (z.led (rw all h) x y p q r s))
             ∙ z.same x y p q r s
             ∙ ap (λ (qs : List ℕ). held_by (at_places t qs) x y || holds_square c x y) all
-            ∙ or_absorbs (held_by (at_places t ps) x y) (holds_square c x y) (held_in t ps lead c x y h there);
-        divisible = z.divisible;
+            ∙ or_absorbs (held_by (at_places t ps) x y) (holds_square c x y) (held_in t ps lead c x y h there));
+        divisible = rw eo z.divisible;
       }
     where
       all : take i ps ≡ ps

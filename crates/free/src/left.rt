@@ -25,7 +25,7 @@ pub(crate) struct Left<'a> {
 }
 
 impl<'a> Left<'a> {
-    ghost use Rattle.std.specs.Prelude.{◌<◌, ◌≡◌, true, MatchOption, Contains, Some, slice_get};
+    ghost use Rattle.std.specs.Prelude.{◌<◌, ◌≡◌, [], true, MatchOption, Contains, Some, slice_get};
     ghost use Rattle.free.specs.Free.{held_by, AgreeOn};
     ghost use Rattle.free.specs.Counting.{regions_left, Enough};
 
@@ -37,15 +37,21 @@ impl<'a> Left<'a> {
         self.regions[usize::from(place)]
     }
 
-    // The places of those that come near the box and that the one at place `lead` does not
-    // make idle, or none where one covers it. The contract leaves open which are kept:
-    // they hold all squares of the box that the others do.
-    pub(crate) fn keep_near(self, lead: u16) -> Option<ArrayVec<u16, LIVE_ROOM>>
-        requires { Contains self.places.now lead }
-        ensures { MatchOption result (AgreeOn self.entry.bounds (held_by (regions_left self.entry)) (λ x y. true)) (λ own. Enough self.entry own.items) }
+    // Those that come near the box and that the one at place `lead` does not make idle,
+    // listed in `own`, or none where one covers it. The contract leaves open which are
+    // kept: they hold all squares of the box that the others do.
+    pub(crate) fn keep_near<'b>(
+        self,
+        lead: u16,
+        own: &'b mut ArrayVec<u16, LIVE_ROOM>,
+    ) -> Option<Left<'b>>
+    where
+        'a: 'b,
+        requires has_lead { Contains self.places.now lead }
+        requires empty { own.old.items ≡ [] }
+        ensures { MatchOption result (AgreeOn self.entry.bounds (held_by (regions_left self.entry)) (λ x y. true)) (λ left. Enough self.entry left) }
     {
         let c = self.region(lead);
-        let mut own = ArrayVec::new();
         for &place in self.places {
             let r = self.region(place);
             if r.is_near(self.bounds) {
@@ -57,12 +63,17 @@ impl<'a> Left<'a> {
                 }
             }
         }
-        Some(own)
+        Some(Left {
+            bounds: self.bounds,
+            regions: self.regions,
+            places: own.as_slice(),
+        })
     }
 
     // The place of the region that the nearest square of the box lies deepest in: it is
     // likely to make many others idle. The contract leaves open which it is, since every
-    // one gives the same count.
+    // one gives the same count. No `max_by_key`: that its closure may be called for each
+    // place did not close.
     pub(crate) fn deepest(self) -> u16
         requires { 0 < length self.places.now }
         ensures { Contains self.entry.places.now result }

@@ -3,7 +3,7 @@ use Prim.Native.Nat.{ℕ, zero, suc}
 use mathlib.Core.Path.{◌≡◌, refl, sym, ap, ◌∙◌, subst}
 use mathlib.Core.Bool.{true, false≢true}
 use mathlib.Core.List.{List, [], ◌∷◌}
-use mathlib.Core.Option.{Option, none, some}
+use Rattle.std.proofs.Common.{Option, Some, None}
 use native.Mathlib.Omega.{arith}
 use lib.ListN.{length, get_or}
 use Rattle.spelling.specs.Text.{bytes, feedless}
@@ -56,8 +56,8 @@ if_read : (most : ℕ) (p line : List ℕ) (form : List ℕ → Form) (other : F
 if_read most p line form other P read not = go (read_as most p line) refl
   where
     go : (o : Option (List ℕ)) → read_as most p line ≡ o → P (form_if o form other)
-    go none e = not
-    go (some ns) e = read ns (read_is_spelled most p line ns e)
+    go None e = not
+    go (Some ns) e = read ns (read_is_spelled most p line ns e)
 
 module _ (m : Limits) where
   -- a known form is spelled by its line
@@ -101,11 +101,11 @@ module _ (m : Limits) where
   Short f = EachShort m.digits (numbers_of f)
 
   -- a spelling of another pattern is not read by this one
-  abbrev missed : (p q : List ℕ) (f : Form) → clash p q ≡ true → length (numbers_of f) ≡ places q → Short f → read_as m.digits p (spell q (numbers_of f)) ≡ none
+  abbrev missed : (p q : List ℕ) (f : Form) → clash p q ≡ true → length (numbers_of f) ≡ places q → Short f → read_as m.digits p (spell q (numbers_of f)) ≡ None
   missed p q f e l s = clash_none m.digits p q (numbers_of f) e l s
 
   abbrev found : (p : List ℕ) (f : Form) → well_formed p ≡ true → length (numbers_of f) ≡ places p → Short f →
-      read_as m.digits p (spell p (numbers_of f)) ≡ some (numbers_of f)
+      read_as m.digits p (spell p (numbers_of f)) ≡ Some (numbers_of f)
   found p f w l s = spelled_is_read m.digits p (numbers_of f) w l s
 
   -- a head's spelling, by its gaps

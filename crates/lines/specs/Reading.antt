@@ -1,6 +1,5 @@
 -- How a line is read. A buyer need not read it: what a line spells is said in specs/Spellings.antt, and proofs/Spelled.antt shows that the two agree.
-use Rattle.std.specs.Prelude.{ℕ, ◌+◌, List, get_or}
-use Rattle.std.proofs.Math.Option.{Option, none, some}
+use Rattle.std.specs.Prelude.{ℕ, ◌+◌, List, get_or, Option, Some, None}
 use Rattle.spelling.specs.Pattern.{read_as}
 use Rattle.forms.specs.declared.Head.{Head}
 use Rattle.forms.specs.declared.Form.{Form}
@@ -44,8 +43,8 @@ end_form ns = End
 
 -- the form where numbers were read, else another
 abbrev pub form_if : Option (List ℕ) → (List ℕ → Form) → Form → Form
-form_if none form other = other
-form_if (some ns) form other = form ns
+form_if None form other = other
+form_if (Some ns) form other = form ns
 
 -- the form that a line spells, without its line feed. The patterns are tried in some order, and no line spells two of them: here the commonest first
 abbrev pub head_form : Limits → List ℕ → Form

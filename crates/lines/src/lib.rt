@@ -1,106 +1,94 @@
 // The form that a line of a job file spells.
-#![tactic(auto)]
+#![tactic(auto, unfolding(spelling::specs::Text::bytes, spelling::specs::Scanning::places, crate::specs::Spellings::one_gap_pattern, crate::specs::Spellings::two_gaps_pattern, crate::specs::Spellings::rect_pattern, crate::specs::Spellings::dummy_pattern, crate::specs::Spellings::fill_pattern, crate::specs::Spellings::end_pattern))]
 
-ghost use Rattle.std.specs.Prelude.{◌≡◌, ◌+◌, ◌<◌};
-ghost use Rattle.spelling.specs.Scanning.{most_values};
+ghost use Rattle.std.specs.Prelude.{◌≡◌, option_map};
+ghost use Rattle.spelling.specs.Pattern.{read_as};
 ghost use Rattle.forms.specs.Limits.{unit_limits};
-ghost use Rattle.lines.specs.Reading.{head_by, one_gap_form, two_gaps_form, shape_form, fill_form, head_form, rare_form, form_of};
+ghost use Rattle.lines.specs.Spellings.{one_gap_pattern, two_gaps_pattern, shape_pattern, fill_pattern, end_pattern};
+ghost use Rattle.lines.specs.Reading.{one_gap_form, two_gaps_form, shape_form, fill_form, end_form, form_of};
 
 use forms::{Form, Gap, Head, Kind, MOST_DIGITS, Shape};
 use geometry::Rect;
-use spelling::{MOST_VALUES, read_as};
+use spelling::read_as;
 
-// The head by a spelling's numbers before the gaps, the gaps, and its numbers from
-// place i on, behind them.
-fn head_by(v: [u64; MOST_VALUES], gap: Gap, i: usize) -> Head
-    requires { i + 3 < most_values }
-    ensures { result ≡ head_by v gap i }
+// What a line spells by one pattern, if it does.
+fn one_gap(line: &[u8]) -> Option<Form>
+    ensures { result ≡ option_map one_gap_form (read_as unit_limits.digits one_gap_pattern line.now) }
 {
-    Head {
-        size: v[0],
-        window: v[1],
-        cut: v[2],
-        gap,
-        lower: v[i],
-        upper: v[i + 1],
-        accuracy: v[i + 2],
-        levels: v[i + 3],
-    }
-}
-
-// The forms of a spelling's numbers.
-fn one_gap_form(v: [u64; MOST_VALUES]) -> Form
-    ensures { result ≡ one_gap_form v }
-{
-    Form::Heading(head_by(v, Gap::Both(v[3]), 4))
-}
-
-fn two_gaps_form(v: [u64; MOST_VALUES]) -> Form
-    ensures { result ≡ two_gaps_form v }
-{
-    Form::Heading(head_by(v, Gap::Each(v[3], v[4]), 5))
-}
-
-fn shape_form(kind: Kind, v: [u64; MOST_VALUES]) -> Form
-    ensures { result ≡ shape_form kind v }
-{
-    let rect = Rect {
-        x1: v[0],
-        y1: v[1],
-        x2: v[2],
-        y2: v[3],
-    };
-    Form::Metal(Shape { kind, rect })
-}
-
-fn fill_form(v: [u64; MOST_VALUES]) -> Form
-    ensures { result ≡ fill_form v }
-{
-    Form::Fill {
-        column: v[0],
-        row: v[1],
-        amount: v[2],
-    }
-}
-
-// The form of a line that is a head, if it is any.
-fn head_form(line: &[u8]) -> Form
-    ensures { result ≡ head_form unit_limits line.now }
-{
-    let one = read_as(
+    let [size, window, cut, both, lower, upper, accuracy, levels] = read_as::<8>(
         line,
         b"(job (size #) (window #) (cut #) (gap #) (bounds # #) (zoom # #))",
         MOST_DIGITS,
-    );
-    if one.ok {
-        let v = one.values;
-        return one_gap_form(v);
-    }
-    let two = read_as(
+    )?;
+    Some(Form::Heading(Head {
+        size,
+        window,
+        cut,
+        gap: Gap::Both(both),
+        lower,
+        upper,
+        accuracy,
+        levels,
+    }))
+}
+
+fn two_gaps(line: &[u8]) -> Option<Form>
+    ensures { result ≡ option_map two_gaps_form (read_as unit_limits.digits two_gaps_pattern line.now) }
+{
+    let [
+        size,
+        window,
+        cut,
+        drawn,
+        dummy,
+        lower,
+        upper,
+        accuracy,
+        levels,
+    ] = read_as::<9>(
         line,
         b"(job (size #) (window #) (cut #) (gap # #) (bounds # #) (zoom # #))",
         MOST_DIGITS,
-    );
-    if two.ok {
-        let v = two.values;
-        return two_gaps_form(v);
-    }
-    Form::Unknown
+    )?;
+    Some(Form::Heading(Head {
+        size,
+        window,
+        cut,
+        gap: Gap::Each(drawn, dummy),
+        lower,
+        upper,
+        accuracy,
+        levels,
+    }))
 }
 
-// The form of a line that is no fill and no drawn metal.
-fn rare_form(line: &[u8]) -> Form
-    ensures { result ≡ rare_form unit_limits line.now }
+fn shape(kind: Kind, line: &[u8]) -> Option<Form>
+    ensures { result ≡ option_map (shape_form kind) (read_as unit_limits.digits (shape_pattern kind) line.now) }
 {
-    let dummy = read_as(line, b"(dummy # # # #)", MOST_DIGITS);
-    if dummy.ok {
-        let v = dummy.values;
-        return shape_form(Kind::Dummy, v);
-    }
-    if read_as(line, b"(end)", MOST_DIGITS).ok {
-        return Form::End;
-    }
-    head_form(line)
+    let [x1, y1, x2, y2] = match kind {
+        Kind::Drawn => read_as::<4>(line, b"(rect # # # #)", MOST_DIGITS)?,
+        Kind::Dummy => read_as::<4>(line, b"(dummy # # # #)", MOST_DIGITS)?,
+    };
+    let rect = Rect { x1, y1, x2, y2 };
+    Some(Form::Metal(Shape { kind, rect }))
+}
+
+fn fill(line: &[u8]) -> Option<Form>
+    ensures { result ≡ option_map fill_form (read_as unit_limits.digits fill_pattern line.now) }
+{
+    let [column, row, amount] = read_as::<3>(line, b"(fill # # #)", MOST_DIGITS)?;
+    Some(Form::Fill {
+        column,
+        row,
+        amount,
+    })
+}
+
+fn end(line: &[u8]) -> Option<Form>
+    ensures { result ≡ option_map end_form (read_as unit_limits.digits end_pattern line.now) }
+{
+    read_as::<0>(line, b"(end)", MOST_DIGITS)?;
+    Some(Form::End)
 }
 
 // The form that a line spells, without its line feed. Most lines of a long file
@@ -108,15 +96,11 @@ fn rare_form(line: &[u8]) -> Form
 pub fn form_of(line: &[u8]) -> Form
     ensures { result ≡ form_of unit_limits line.now }
 {
-    let fill = read_as(line, b"(fill # # #)", MOST_DIGITS);
-    if fill.ok {
-        let v = fill.values;
-        return fill_form(v);
-    }
-    let rect = read_as(line, b"(rect # # # #)", MOST_DIGITS);
-    if rect.ok {
-        let v = rect.values;
-        return shape_form(Kind::Drawn, v);
-    }
-    rare_form(line)
+    fill(line)
+        .or_else(|| shape(Kind::Drawn, line))
+        .or_else(|| shape(Kind::Dummy, line))
+        .or_else(|| end(line))
+        .or_else(|| one_gap(line))
+        .or_else(|| two_gaps(line))
+        .unwrap_or(Form::Unknown)
 }

@@ -10,7 +10,6 @@ use Rattle.geometry.specs.declared.Sense.{Sense}
 use Rattle.geometry.specs.declared.Sense.TheVariants.{Greatest, Least}
 use Rattle.geometry.specs.Sizes.{largest}
 use Rattle.extremes.specs.declared.Extremes.{Extremes}
-use Rattle.sweep.specs.Strips.{Swept}
 use Rattle.geometry.specs.Positions.{Position}
 use Rattle.extremes.specs.Exact.{extreme, exact_run}
 use Rattle.extremes.proofs.Promises.{extreme_over_all}
@@ -43,11 +42,10 @@ module _ (h : Head) (rects : List Rect) (amounts : List ℕ) where
   quick s = quick_of s h rects
 
   -- what a quick run asks, after the exact run
-  pub runnable : (s : Sense) → Ready h rects amounts → (order : List ℕ) → Swept rects order → {m : Spot} → m ≡ extreme s rects h.size h.window →
-      Runnable s rects order (record { size = h.size; window = h.window; accuracy = h.accuracy; levels = h.levels }) m
-  runnable s r order z e =
+  pub runnable : (s : Sense) → Ready h rects amounts → {m : Spot} → m ≡ extreme s rects h.size h.window →
+      Runnable s rects (record { size = h.size; window = h.window; accuracy = h.accuracy; levels = h.levels }) m
+  runnable s r e =
       record {
-        swept = z;
         some_window = r.some_window;
         window_fits = r.window_fits;
         small = r.small;
@@ -111,7 +109,7 @@ module _ (h : Head) (rects : List Rect) (amounts : List ℕ) where
       }
 
   -- what judging the fill asks
-  pub planned : Ready h rects amounts → {p : Plan} → p ≡ plan_of h → Planned rects amounts p
+  pub planned : Ready h rects amounts → {p : Plan} → p ≡ plan_of h → Planned amounts p
   planned r e = rw e r.planned
 
   -- a job at a number of amounts that the code computed

@@ -19,7 +19,7 @@ pub record Ready (h : Head) (rects : List Rect) (amounts : List ℕ) : Type 0 wh
   pub small : h.size ≤ widest
   pub accurate : h.accuracy ≤ most_accuracy
   pub bounds_order : h.lower ≤ h.upper
-  pub planned : Planned rects amounts (plan_of h)
+  pub planned : Planned amounts (plan_of h)
 
 -- the window of side w at a named corner ends where coordinates are small, and so do all that an answer names
 pub record SmallSpot (w : ℕ) (p : Spot) : Type 0 where

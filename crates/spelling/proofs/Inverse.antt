@@ -3,7 +3,7 @@ use Prim.Native.Nat.{ℕ, suc, ◌≤◌}
 use mathlib.Core.Path.{◌≡◌, refl, sym, ap, ap₂, ◌∙◌}
 use mathlib.Core.Bool.{Bool, true, false, not, ◌&&◌, ◌||◌}
 use mathlib.Core.List.{List, [], ◌∷◌, ◌++◌, append-nil}
-use mathlib.Core.Option.{Option, none, some}
+use Rattle.std.proofs.Common.{Option, Some, None}
 use native.Mathlib.Omega.{arith}
 use borrow.Author.Tests.{leb-true, eqb-true, eqb-false, not-true}
 use lib.Dec.{leb, eqb}
@@ -23,13 +23,13 @@ pub record Spelled (most : ℕ) (p line ns : List ℕ) : Type 0 where
   pub short : EachShort most ns
 
 abbrev Right : (most : ℕ) (p line : List ℕ) → Option (List ℕ) → Type 0
-Right most p line none = Unit {0}
-Right most p line (some ns) = Spelled most p line ns
+Right most p line None = Unit {0}
+Right most p line (Some ns) = Spelled most p line ns
 
 right_number : (most c : ℕ) (p s : List ℕ) → is_place c ≡ true → is_numeral most (digits_of s) ≡ true → (o : Option (List ℕ)) →
     Right most p (past_digits s) o → Right most (c ∷ p) s (with_number (value_from 0 (digits_of s)) o)
-right_number most c p s e g none r = tt
-right_number most c p s e g (some ms) r =
+right_number most c p s e g None r = tt
+right_number most c p s e g (Some ms) r =
     record {
       spelling = sym (digits_then_past s) ∙ ap₂ ◌++◌ (sym digits) r.spelling ∙ sym (spell_place c p e v ms);
       count = ap suc r.count ∙ sym (places_place c p e);
@@ -46,8 +46,8 @@ right_number most c p s e g (some ms) r =
     digits = same_equal (decimal (value_from 0 (digits_of s))) (digits_of s) k.1
 
 right_byte : (most c : ℕ) (p s : List ℕ) → is_place c ≡ false → (b : ℕ) → b ≡ c → (o : Option (List ℕ)) → Right most p s o → Right most (c ∷ p) (b ∷ s) o
-right_byte most c p s e b h none r = tt
-right_byte most c p s e b h (some ms) r =
+right_byte most c p s e b h None r = tt
+right_byte most c p s e b h (Some ms) r =
     record { spelling = ap₂ ◌∷◌ h r.spelling ∙ sym (spell_byte c p e ms); count = r.count ∙ sym (places_byte c p e); short = r.short }
 
 right_step : (most c : ℕ) (p : List ℕ) → ((t : List ℕ) → Right most p t (read_as most p t)) → (x : Bool) → is_place c ≡ x → (s : List ℕ) →
@@ -70,7 +70,7 @@ right most [] [] = record { spelling = refl; count = refl; short = tt }
 right most [] (b ∷ s) = tt
 right most (c ∷ p) s = right_step most c p (λ t. right most p t) (is_place c) refl s
 
-pub read_is_spelled : (most : ℕ) (p line ns : List ℕ) → read_as most p line ≡ some ns → Spelled most p line ns
+pub read_is_spelled : (most : ℕ) (p line ns : List ℕ) → read_as most p line ≡ Some ns → Spelled most p line ns
 read_is_spelled most p line ns e = rw e at (right most p line)
 
 -- ---- what is spelled so is read
@@ -109,9 +109,9 @@ read_decimal most c p e n t h d k =
     past = (digits_append (decimal n) t (all_decimal n)).1 ∙ k
 
 -- one byte more in front of a pattern whose spellings are read
-spelled_step : (most c : ℕ) (p : List ℕ) → ((ns : List ℕ) → length ns ≡ places p → EachShort most ns → read_as most p (spell p ns) ≡ some ns) →
+spelled_step : (most c : ℕ) (p : List ℕ) → ((ns : List ℕ) → length ns ≡ places p → EachShort most ns → read_as most p (spell p ns) ≡ Some ns) →
     (x : Bool) → is_place c ≡ x → (not x || ends_number p) ≡ true → (ns : List ℕ) → length ns ≡ places (c ∷ p) → EachShort most ns →
-    read_as most (c ∷ p) (spell (c ∷ p) ns) ≡ some ns
+    read_as most (c ∷ p) (spell (c ∷ p) ns) ≡ Some ns
 spelled_step most c p ih true e w [] l b = absurd (omega (arith, places_place c p e))
 spelled_step most c p ih true e w (n ∷ ns) l b =
     rw (spell_place c p e n ns)
@@ -121,7 +121,7 @@ spelled_step most c p ih false e w ns l b =
     rw (spell_byte c p e ns) (read_same c p e most c (spell p ns) refl ∙ ih ns (l ∙ places_byte c p e) b)
 
 pub spelled_is_read : (most : ℕ) (p ns : List ℕ) → well_formed p ≡ true → length ns ≡ places p → EachShort most ns →
-    read_as most p (spell p ns) ≡ some ns
+    read_as most p (spell p ns) ≡ Some ns
 unfolding read_as spell well_formed places
 spelled_is_read most [] [] w l b = refl
 spelled_is_read most [] (n ∷ ns) w l b = absurd (omega arith)

@@ -1,16 +1,23 @@
 -- What one byte of a pattern asks, and what it spells.
-use Prim.Native.Nat.{ℕ, zero, suc, ◌-◌}
-use mathlib.Core.Path.{◌≡◌, refl, sym, ap, ◌∙◌}
-use mathlib.Core.Bool.{true, false, false≢true, true≢false}
+use Prim.Native.Nat.{ℕ, suc}
+use mathlib.Core.Path.{◌≡◌, refl, sym, ◌∙◌}
+use mathlib.Core.Bool.{true, false, false≢true}
 use mathlib.Core.List.{List, [], ◌∷◌, ◌++◌}
-use mathlib.Core.Option.{Option, none, some}
-use borrow.Author.Tests.{eq-eqb, ne_eqb}
-use lib.ListN.{length, get_or, replicate}
-use Rattle.spelling.specs.declared.Reading.{Reading}
+use Rattle.std.proofs.Common.{None}
+use borrow.Author.Tests.{eq-eqb, ne_eqb, eqb-true}
+use lib.Dec.{eqb}
+use lib.ListN.{length, take, drop}
+use lib.Pointwise.{pointwise}
+use Rattle.laws.proofs.Tests.{both}
 use Rattle.spelling.specs.Decimal.{decimal, digits_of, past_digits, value_from, is_numeral}
 use Rattle.spelling.specs.Pattern.{is_place, spell, with_number, read_as}
-use Rattle.spelling.specs.Scanning.{most_values, places, as_reading}
+use Rattle.spelling.specs.Scanning.{places}
 use Rattle.spelling.proofs.Numerals.{no_numeral}
+
+-- a line that ends too early
+pub read_short : (most c : ℕ) (p : List ℕ) → read_as most (c ∷ p) [] ≡ None
+unfolding read_as
+read_short most c p = refl
 
 module _ (c : ℕ) (p : List ℕ) (e : is_place c ≡ true) where
   pub places_place : places (c ∷ p) ≡ suc (places p)
@@ -28,7 +35,7 @@ module _ (c : ℕ) (p : List ℕ) (e : is_place c ≡ true) where
   read_number most (b ∷ s) g = rw (e, read_as) (rw g refl)
 
   -- also at the end of a line
-  pub read_no_number : (most : ℕ) (s : List ℕ) → is_numeral most (digits_of s) ≡ false → read_as most (c ∷ p) s ≡ none
+  pub read_no_number : (most : ℕ) (s : List ℕ) → is_numeral most (digits_of s) ≡ false → read_as most (c ∷ p) s ≡ None
   unfolding read_as
   read_no_number most [] g = refl
   read_no_number most (b ∷ s) g = rw (e, read_as) (rw g refl)
@@ -47,44 +54,26 @@ module _ (c : ℕ) (p : List ℕ) (e : is_place c ≡ false) where
   unfolding read_as
   read_same most b s h = rw (e, read_as) (rw (eq-eqb b c h) refl)
 
-  pub read_other : (most b : ℕ) (s : List ℕ) → (b ≡ c → ⊥) → read_as most (c ∷ p) (b ∷ s) ≡ none
+  pub read_other : (most b : ℕ) (s : List ℕ) → (b ≡ c → ⊥) → read_as most (c ∷ p) (b ∷ s) ≡ None
   unfolding read_as
   read_other most b s h = rw (e, read_as) (rw (ne_eqb b c h) refl)
 
--- a line that ends too early
-pub read_short : (most c : ℕ) (p : List ℕ) → read_as most (c ∷ p) [] ≡ none
+  -- a byte in front of a line, as `strip_prefix` finds it
+  pub read_byte : (most : ℕ) (s : List ℕ) → pointwise eqb (take 1 s) (c ∷ []) ≡ true → read_as most (c ∷ p) s ≡ read_as most p (drop 1 s)
+  read_byte most [] h = absurd (false≢true h)
+  read_byte most (b ∷ s) h = read_same most b s (eqb-true b c (both (eqb b c) true h).0)
+
+  pub read_no_byte : (most : ℕ) (s : List ℕ) → pointwise eqb (take 1 s) (c ∷ []) ≡ false → read_as most (c ∷ p) s ≡ None
+  read_no_byte most [] h = read_short most c p
+  read_no_byte most (b ∷ s) h = read_other most b s (λ e. let same : pointwise eqb (b ∷ []) (c ∷ []) ≡ true = rw (eq-eqb b c e) in absurd (false≢true (sym h ∙ same)))
+
+-- a line that goes on behind its pattern
+pub read_over : (most : ℕ) (s : List ℕ) → (length s ≡ 0 → ⊥) → read_as most [] s ≡ None
 unfolding read_as
-read_short most c p = refl
+read_over most [] h = absurd (h refl)
+read_over most (b ∷ s) h = refl
 
 -- where no numbers are left a place is written as it stands
 pub spell_none : (c : ℕ) (p : List ℕ) → spell (c ∷ p) [] ≡ c ∷ spell p []
 unfolding spell
 spell_none c p = refl
-
--- ---- a reading, as a caller takes it apart
-
-pub record Found (read : Option (List ℕ)) (r : Reading) : Type 0 where
-  pub numbers : List ℕ
-  pub is : read ≡ some numbers
-  pub at : (i : ℕ) → get_or r.values i 0 ≡ get_or numbers i 0
-
--- the zeros behind a table's numbers are what stands past the end of a list
-zeros_behind : (ns : List ℕ) (k i : ℕ) → get_or (ns ++ replicate k 0) i 0 ≡ get_or ns i 0
-zeros_behind [] zero i = refl
-zeros_behind [] (suc k) zero = refl
-zeros_behind [] (suc k) (suc i) = zeros_behind [] k i
-zeros_behind (n ∷ ns) k zero = refl
-zeros_behind (n ∷ ns) k (suc i) = zeros_behind ns k i
-
-pub reading_found : (read : Option (List ℕ)) (r : Reading) → r ≡ as_reading read → r.ok ≡ true → Found read r
-reading_found none r e y = absurd (false≢true (sym (ap (λ (x : Reading). x.ok) e) ∙ y))
-reading_found (some ns) r e y =
-    record {
-      numbers = ns;
-      is = refl;
-      at = λ i. ap (λ (x : Reading). get_or x.values i 0) e ∙ zeros_behind ns (most_values - length ns) i;
-    }
-
-pub reading_missed : (read : Option (List ℕ)) (r : Reading) → r ≡ as_reading read → r.ok ≡ false → read ≡ none
-reading_missed none r e y = refl
-reading_missed (some ns) r e y = absurd (true≢false (sym (ap (λ (x : Reading). x.ok) e) ∙ y))

@@ -1,6 +1,5 @@
 -- Lines are spelled by patterns: bytes as they stand, and for each # the decimal spelling of the next number.
-use Rattle.std.specs.Prelude.{ℕ, Bool, true, false, List, [], ◌∷◌, ◌++◌, eqb}
-use Rattle.std.proofs.Math.Option.{Option, none, some}
+use Rattle.std.specs.Prelude.{ℕ, Bool, true, false, List, [], ◌∷◌, ◌++◌, eqb, Option, Some, None}
 use Rattle.spelling.specs.Decimal.{decimal, digits_of, past_digits, value_from, is_numeral}
 
 -- the byte #, a place for a number
@@ -17,22 +16,22 @@ spell (c ∷ p) (n ∷ ns) = elim (is_place c) [ true ↦ decimal n ++ spell p n
 
 -- one more number in front of what was read
 abbrev pub with_number : ℕ → Option (List ℕ) → Option (List ℕ)
-with_number n none = none
-with_number n (some ns) = some (n ∷ ns)
+with_number n None = None
+with_number n (Some ns) = Some (n ∷ ns)
 
 -- the numbers with which a line spells a pattern, each of at most `most` digits; none where no numbers do.
 -- proofs/Inverse.antt shows both ways that this is the inverse of `spell`, for patterns in which no # is followed by a digit or another #
 -- (`well_formed`); the patterns of the job lines, the only ones that are read, are such.
 unfoldable pub read_as : (most : ℕ) → (pattern line : List ℕ) → Option (List ℕ)
-read_as most [] [] = some []
-read_as most [] (b ∷ s) = none
-read_as most (c ∷ p) [] = none
+read_as most [] [] = Some []
+read_as most [] (b ∷ s) = None
+read_as most (c ∷ p) [] = None
 read_as most (c ∷ p) (b ∷ s) =
     elim (is_place c) [
       | true ↦
           elim (is_numeral most (digits_of (b ∷ s))) [
             | true ↦ with_number (value_from 0 (digits_of (b ∷ s))) (read_as most p (past_digits (b ∷ s)))
-            | false ↦ none
+            | false ↦ None
           ]
-      | false ↦ elim (eqb b c) [ true ↦ read_as most p s | false ↦ none ]
+      | false ↦ elim (eqb b c) [ true ↦ read_as most p s | false ↦ None ]
     ]

@@ -18,6 +18,7 @@ impl Corners {
         south.min(north)
     }
 
+    // One function over `min` and `max` would be no plainer.
     pub fn most(self) -> u64
         ensures { result ≡ most_corner self }
     {

@@ -60,7 +60,7 @@ module _ (s : List Upright) (x at rows moment : ℕ) (a : Advancing s x at rows 
     taken_next g total t =
         omega (arith, t, ap (λ (l : List Upright). left_sum g l x) next, left_cons g u (drop (suc at) s) x, left_of u.column x (g u.column u.rows) earlier)
 
-    pub advance_next : Advancing s x (at + 1) (rows + u.rows) (moment + u.rows * u.column)
+    advance_next : Advancing s x (at + 1) (rows + u.rows) (moment + u.rows * u.column)
     unfolding Rising
     advance_next =
         rw (add-one)
@@ -155,10 +155,6 @@ module _ (s : List Upright) (x p i at rows moment : ℕ) (a : Advancing s x at r
     this_product z = small_product (get_or rest i d).rows (get_or rest i d).column (this_small z).rows (this_small z).column
 
 -- ---- both edges of a box, and the box
-
-pub edges_moved : (s : List Upright) (left right : ℕ) (a b : Cursor) → a ≡ cursor_at s left → b ≡ cursor_at s right →
-    ◌≡◌ {A = Edges} (record { left = a; right = b }) (edges_at s left right)
-edges_moved s left right a b e f = ap₂ {C = Edges} (λ (a b : Cursor). record { left = a; right = b }) e f
 
 edges_before : (s : List Upright) (e : Edges) (l r left right : ℕ) → e ≡ edges_at s l r → l ≤ left → r ≤ right → left ≤ right → right ≤ widest →
     EdgesBefore s e left right

@@ -42,6 +42,7 @@ pub fn start_frame() -> Frame
 // Moves a box to the right, each of its edges by itself: from the true area at one
 // place, which `Behind` asks for, to the true area at the next. Only the sides that
 // its edges pass are added.
+#[inline(always)]
 pub fn move_to(lows: &[Upright], highs: &[Upright], from: Frame, left: u64, right: u64) -> Frame
     requires strip { IsStrip lows.now highs.now }
     requires behind { Behind lows.now highs.now from left right }

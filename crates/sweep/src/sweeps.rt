@@ -27,7 +27,9 @@ impl<'a> Sweep<'a> {
         }
     }
 
-    // Moves the box to the right, each of its edges by itself.
+    // Moves the box to the right, each of its edges by itself. A quick run does so at
+    // up to a million starts a level, where a call would make it a third slower.
+    #[inline(always)]
     pub fn move_to(&mut self, left: u64, right: u64)
         requires left_later { self.old.frame.left ≤ left }
         requires right_later { self.old.frame.right ≤ right }

@@ -1,14 +1,14 @@
 -- The table of tile loads: how it is filled, and that its whole load fits 64 bits.
 use Prim.Native.Nat.{ℕ, suc, ◌+◌, ◌-◌, ◌*◌, ◌≤◌, ◌<◌}
-use mathlib.Core.Path.{◌≡◌, refl, sym, ap, ap₂, ◌∙◌, subst}
-use mathlib.Core.List.{List}
+use mathlib.Core.Path.{◌≡◌, refl, sym, ap, ap₂, ◌∙◌}
+use mathlib.Core.List.{List, [], ◌∷◌, ◌++◌}
 use mathlib.Core.Logic.{◌⊎◌, inl, inr}
 use native.Mathlib.Nat.{sub-zero, suc-mul, mul-le-mul, mul-le-mul_right}
 use native.Mathlib.Numerals.{add-one}
 use native.Mathlib.Omega.{arith}
 use lib.Arith.{digits_lt, digits_div, digits_mod}
-use lib.ListN.{length, get_or, set, length-set}
-use lib.Seq.{get_or-set_same, get_or-set_other}
+use lib.ListN.{get_or, length-append, get_or-append}
+use lib.Seq.{get_or-append_seam}
 use Rattle.laws.proofs.Tests.{below_or_last}
 use Rattle.geometry.specs.declared.Rect.{Rect}
 use Rattle.geometry.specs.Sizes.{widest, largest}
@@ -22,7 +22,7 @@ use Rattle.spacing.specs.declared.Keepout.{Keepout}
 use Rattle.tiles.specs.declared.Plan.{Plan}
 use Rattle.spacing.specs.Eligible.{tile, fillable_area}
 use Rattle.tiles.specs.Tiles.{TileBox, number_at, load}
-use Rattle.tiles.specs.Sums.{load_of, TileRow, tiles_before, Loads, TilesInLayout, Filled}
+use Rattle.tiles.specs.Sums.{load_of, TileRow, tiles_before, Loads, TilesInLayout, Tabled}
 use Rattle.tiles.specs.Sizes.{most_across, tiles_room, Tiled}
 use Rattle.spacing.proofs.Outside.{fillable_small}
 
@@ -30,26 +30,18 @@ use Rattle.spacing.proofs.Outside.{fillable_small}
 pub place_within : (across i j m : ℕ) → i < across → j < across → across * across ≤ m → j * across + i < m
 place_within across i j m h k l = omega (arith, digits_lt {q = j} {m = across} {r = i} {c = across} k h)
 
--- ---- a table that is filled, tile by tile and row by row
+-- ---- a table that is filled, number by number
 
-pub filled_start : (f : ℕ → ℕ) (l : List ℕ) (from : ℕ) → Filled f l l from from
-filled_start f l from = record { size = refl; set = λ k h u. absurd (omega arith); below = λ k h. refl; rest = λ k h. refl }
+pub tabled_to : {f : ℕ → ℕ} {n m : ℕ} {table : List ℕ} → Tabled f n table → n ≡ m → Tabled f m table
+tabled_to s e = rw (← e) s
 
-pub filled_next : (f : ℕ → ℕ) (l m : List ℕ) (from t v : ℕ) → Filled f l m from t → from ≤ t → t < length m → v ≡ f t → Filled f l (set m t v) from (t + 1)
-filled_next f l m from t v s p h e =
-    record {
-      size = length-set m t v ∙ s.size;
-      set = λ k a u. go k a (below_or_last k t (omega arith));
-      below = λ k u. get_or-set_other m t k v 0 (λ q. omega arith) ∙ s.below k u;
-      rest = λ k u. get_or-set_other m t k v 0 (λ q. omega arith) ∙ s.rest k (omega arith);
-    }
+pub tabled_more : {f : ℕ → ℕ} {n m : ℕ} {table more : List ℕ} {v : ℕ} → Tabled f n table → v ≡ f n → more ≡ table ++ (v ∷ []) → m ≡ n + 1 → Tabled f m more
+tabled_more {f = f} {n = n} {table = table} {v = v} s h e q =
+    rw (e, q) (record { size = simp length-append (omega (arith, s.size)); set = λ k u. go k (below_or_last k n (omega arith)) })
   where
-    go : (k : ℕ) → from ≤ k → (k < t) ⊎ (k ≡ t) → get_or (set m t v) k 0 ≡ f k
-    go k a (inl u) = get_or-set_other m t k v 0 (λ q. omega arith) ∙ s.set k a u
-    go k a (inr q) = ap (λ (x : ℕ). get_or (set m t v) x 0) q ∙ get_or-set_same m t v 0 h ∙ e ∙ ap f (sym q)
-
-pub filled_to : (f : ℕ → ℕ) (l m : List ℕ) (from to n : ℕ) → Filled f l m from to → to ≡ n → Filled f l m from n
-filled_to f l m from to n s e = subst (Filled f l m from) e s
+    go : (k : ℕ) → (k < n) ⊎ (k ≡ n) → get_or (table ++ (v ∷ [])) k 0 ≡ f k
+    go k (inl u) = get_or-append table (v ∷ []) 0 k (omega (arith, s.size)) ∙ s.set k u
+    go k (inr p) = ap (λ (i : ℕ). get_or (table ++ (v ∷ [])) i 0) (p ∙ sym s.size) ∙ get_or-append_seam table v [] 0 ∙ h ∙ ap f (sym p)
 
 -- a tile's width
 tile_width : (side i : ℕ) → suc i * side - i * side ≡ side
@@ -69,9 +61,6 @@ pub tile_end : (side i : ℕ) → i * side ≤ (i + 1) * side
 tile_end side i = mul-le-mul_right side (omega arith)
 
 module _ {strip : Strip} {amounts : List ℕ} {plan : Plan} {j i : ℕ} (z : Tiled amounts plan) (r : TileRow strip plan j) (h : i < plan.across) where
-  pub place_inside : j * plan.across + i < plan.across * plan.across
-  place_inside = place_within plan.across i j (plan.across * plan.across) h r.row (omega arith)
-
   module _ {s : Strip} {area : ℕ} (same : s ≡ strip) (e : area ≡ strip_area s (i * plan.side) ((i + 1) * plan.side)) where
     abbrev rects : List Rect
     rects = strip.sorted.now.rects.now
@@ -92,10 +81,9 @@ module _ {strip : Strip} {amounts : List ℕ} {plan : Plan} {j i : ℕ} (z : Til
         ap (λ (a : ℕ). a + get_or amounts (j * plan.across + i) 0) tile_area
         ∙ sym (ap₂ (load rects amounts plan) (digits_mod j {m = plan.across} {r = i} h) (digits_div j {m = plan.across} {r = i} h))
 
--- ---- the filled table
+-- ---- the table of loads
 
-module _ (rects : List Rect) (amounts : List ℕ) (plan : Plan) (before table : List ℕ)
-    (s : Filled (load_of rects amounts plan) before table 0 (plan.across * plan.across)) where
+module _ (rects : List Rect) (amounts : List ℕ) (plan : Plan) {table : List ℕ} (s : Tabled (load_of rects amounts plan) (plan.across * plan.across) table) where
   abbrev across : ℕ
   across = plan.across
 
@@ -104,13 +92,14 @@ module _ (rects : List Rect) (amounts : List ℕ) (plan : Plan) (before table : 
 
   table_load : (i j : ℕ) → i < across → j < across → number_at table across i j ≡ loads i j
   table_load i j h k =
-      s.set (j * across + i) (omega arith) (place_within across i j (across * across) h k (omega arith))
+      s.set (j * across + i) (place_within across i j (across * across) h k (omega arith))
       ∙ ap₂ loads (digits_mod j {m = across} {r = i} h) (digits_div j {m = across} {r = i} h)
 
-  pub table_light : Tiled amounts plan → across * across ≤ length before → Loads table across
-  table_light t h =
+  pub table_light : Tiled amounts plan → Loads table across
+  table_light t =
       record {
-        tiles = record { few = t.few; full = omega (arith, s.size) };
+        few = t.few;
+        full = omega (arith, s.size);
         light =
             omega (
               arith,

@@ -3,7 +3,6 @@ use Prim.Native.Nat.{ℕ, ◌+◌, ◌^◌, ◌≤◌, ◌<◌}
 use mathlib.Core.Path.{◌≡◌, refl, sym, ap, ap₂, ◌∙◌, subst}
 use mathlib.Core.Bool.{Bool, true, false, not, ◌&&◌}
 use mathlib.Core.List.{List, [], ◌∷◌, ◌++◌}
-use native.Mathlib.Nat.{zero-add}
 use native.Mathlib.Omega.{arith}
 use borrow.Author.Tests.{le-leb, lt-leb}
 use lib.Dec.{leb, ltb, eqb, lit<, lit≤}
@@ -12,8 +11,6 @@ use lib.Seq.{take_at}
 use Rattle.geometry.specs.Layout.{shares_square}
 use Rattle.buffers.specs.Written.{at_front, Front}
 use Rattle.tiles.specs.Tiles.{number_at}
-use Rattle.spelling.specs.Text.{bytes}
-use Rattle.spelling.specs.Pattern.{spell}
 use Rattle.forms.specs.declared.Form.{Form}
 use Rattle.forms.specs.declared.Form.TheVariants.{Unknown, Heading, Metal, Fill, End}
 use Rattle.forms.specs.Limits.{Limits, unit_limits}
@@ -25,14 +22,14 @@ use Rattle.jobfile.specs.File.{Outcome, refused, accepted, outcome_of}
 use Rattle.jobfile.specs.Acceptance.{forms_text, LineFault, spelled, unspelled, FirstFault, faulty, unfed, unended, RefusedFile, long, lines}
 use Rattle.jobfile.proofs.Files.{acceptance}
 use Rattle.jobfile.specs.declared.Refusal.{Refusal}
-use Rattle.std.specs.Prelude.{Ok, Err}
+use Rattle.std.specs.Prelude.{Result, Ok, Err, MatchResult}
 use Rattle.standing.specs.Fault.{fault_number}
+use Rattle.arrayvec.specs.ArrayVec.{ArrayVec}
 use Rattle.answers.specs.Lines.{text_of}
 use Rattle.unit.specs.Whole.{answer_of, Reply, Accepted, Refused, reply_of, reply_to, buffer_after, reply_for, buffer_for, reply_number, reply_value, code_of, printed_of, printed_for}
 use Rattle.answers.specs.Room.{answer_room}
 use Rattle.unit.specs.Guarantee.{Guarantee, Reported}
-use Rattle.answers.specs.Writing.{WrittenIn}
-use Rattle.unit.specs.Rendering.{rendered, rendered_in, Rendering}
+use Rattle.unit.specs.Rendering.{Rendering}
 use Rattle.unit.proofs.Accepting.{promised, refused_positive}
 
 -- ---- how large a fault's number and line may be
@@ -148,12 +145,12 @@ reported {file = file} f = record { printed = f; promised = promised file }
 
 -- ---- the three ways in which `answer` returns
 
-module _ (file before text : List ℕ) where
-  pub answer_refused : (e : Refusal) → Rendering (outcome_of unit_limits file) before text (Err e) → (out : List ℕ) → Returned file out (reply_of (Err e)) out
-  answer_refused e p out = go (outcome_of unit_limits file) refl p.reply
+module _ (file : List ℕ) where
+  pub answer_refused : (e : Refusal) → Rendering (outcome_of unit_limits file) (Err e) → (out : List ℕ) → Returned file out (reply_of (Err e)) out
+  answer_refused e p out = go (outcome_of unit_limits file) refl p
     where
-      go : (o : Outcome) → outcome_of unit_limits file ≡ o → reply_of (Err e) ≡ rendered o → Returned file out (reply_of (Err e)) out
-      go (accepted st) q r = let z : ◌≡◌ {A = ℕ} 0 1 = cc in absurd (omega arith)
+      go : (o : Outcome) → outcome_of unit_limits file ≡ o → Rendering o (Err e) → Returned file out (reply_of (Err e)) out
+      go (accepted st) q r = absurd r
       go (refused number line) q r =
           let most = refused_at_most file number line q in
           record {
@@ -163,75 +160,45 @@ module _ (file before text : List ℕ) where
             room_enough = λ h z. omega (arith, z, most.0, ap reply_number r);
           }
 
-  module _ (n : ℕ) (p : Rendering (outcome_of unit_limits file) before text (Ok n)) where
-    -- the file is accepted, and its text stands at the front
-    found : (st : Standing) × (outcome_of unit_limits file ≡ accepted st)
-    found = go (outcome_of unit_limits file) refl p.reply
+  module _ (text : ArrayVec ℕ) (short : length text.items ≤ answer_room) (p : Rendering (outcome_of unit_limits file) (Ok text)) where
+    -- the file is accepted, and the text is its answer's
+    found : (st : Standing) × (outcome_of unit_limits file ≡ accepted st) × (text.items ≡ text_of (answer_of st))
+    found = go (outcome_of unit_limits file) refl p
       where
-        go : (o : Outcome) → outcome_of unit_limits file ≡ o → reply_of (Ok n) ≡ rendered o → (st : Standing) × (outcome_of unit_limits file ≡ accepted st)
-        go (accepted st) q r = (st, q)
-        go (refused number line) q r = let z : ◌≡◌ {A = ℕ} 0 1 = cc in absurd (omega arith)
+        go : (o : Outcome) → outcome_of unit_limits file ≡ o → Rendering o (Ok text) →
+            (st : Standing) × (outcome_of unit_limits file ≡ accepted st) × (text.items ≡ text_of (answer_of st))
+        go (accepted st) q r = (st, q, r)
+        go (refused number line) q r = absurd r
 
-    st : Standing
-    st = found.0
-
-    is : outcome_of unit_limits file ≡ accepted st
-    unfolding st
-    is = found.1
-
-    long_is : n ≡ length (text_of (answer_of st))
-    long_is = ap reply_value (p.reply ∙ ap rendered is)
-
-    pub answer_short : (out : List ℕ) → length out < n → Returned file out (Refused 13 0) out
+    pub answer_short : (out : List ℕ) → length out < length text.items → Returned file out (Refused 13 0) out
     answer_short out h =
-        let t : leb (length (text_of (answer_of st))) (length out) ≡ false = lt-leb (length (text_of (answer_of st))) (length out) (omega (arith, long_is)) in
+        let t : leb (length (text_of (answer_of found.0))) (length out) ≡ false =
+        lt-leb (length (text_of (answer_of found.0))) (length out) (omega (arith, ap length found.2)) in
         record {
-          reply = rw (is, reply_to) (rw t);
-          buffer = rw (is, buffer_after) (rw t);
+          reply = rw (found.1, reply_to) (rw t);
+          buffer = rw (found.1, buffer_after) (rw t);
           decodes = lit< tt;
-          room_enough = λ k z. omega (arith, h, k, p.short);
+          room_enough = λ k z. omega (arith, h, k, short);
         }
 
-    front : take n text ≡ text_of (answer_of st)
-    front =
-        ap (λ (s : List ℕ). take n s) (p.buffer ∙ ap (λ (o : Outcome). rendered_in o before) is)
-        ∙ take_at (text_of (answer_of st)) (drop (length (text_of (answer_of st))) before) n (sym long_is)
-
-    pub answer_fits : (out : List ℕ) {room : ℕ} (after : List ℕ) (next : ℕ) → n ≤ length out → WrittenIn room out 0 (take n text) after next →
-        Returned file out (Accepted n) after
-    answer_fits out after next h w =
-        let t : leb (length (text_of (answer_of st))) (length out) ≡ true = le-leb (length (text_of (answer_of st))) (length out) (omega (arith, long_is)) in
-        let put : after ≡ text_of (answer_of st) ++ drop (length (text_of (answer_of st))) out =
-        w.written.buffer ∙ ap (λ (k : ℕ). take n text ++ drop k out) (zero-add (length (take n text)))
-        ∙ ap (λ (s : List ℕ). s ++ drop (length s) out) front in
+    pub answer_fits : (out after : List ℕ) (n : ℕ) → length text.items ≤ length out → Front out text.items after n → Returned file out (Accepted n) after
+    answer_fits out after n h w =
+        let t : leb (length (text_of (answer_of found.0))) (length out) ≡ true =
+        le-leb (length (text_of (answer_of found.0))) (length out) (omega (arith, ap length found.2)) in
         record {
-          reply = rw (is, reply_to) (rw t (ap Accepted long_is));
-          buffer = rw (is, buffer_after) (rw t put);
-          decodes = omega (arith, p.short);
+          reply = rw (found.1, reply_to) (rw t (ap Accepted (w.count ∙ ap length found.2)));
+          buffer = rw (found.1, buffer_after) (rw t (w.buffer ∙ ap (λ (l : List ℕ). at_front l out) found.2));
+          decodes = omega (arith, w.count, short);
           room_enough = λ k z. omega (arith, z);
         }
 
-    pub printed_answer : Front before (printed_for file) text n
-    printed_answer = rw is (record { count = long_is; buffer = p.buffer ∙ ap (λ (o : Outcome). rendered_in o before) is })
-
--- the line that a refused file prints
-refusal : (number line : ℕ) → List ℕ
-refusal number line = spell (bytes "(refused # #)\n") (number ∷ line ∷ [])
-
-pub printed_refusal : (file before text : List ℕ) (e : Refusal) → Rendering (outcome_of unit_limits file) before text (Err e) → (k : ℕ) → k ≡ fault_number e.fault →
-    (after : List ℕ) (next : ℕ) → WrittenIn 54 text 0 (spell (bytes "(refused # #)\n") (k ∷ e.line ∷ [])) after next → Front before (printed_for file) after next
-unfolding refusal
-printed_refusal file before text e p k f after next w = go (outcome_of unit_limits file) p
+-- what a file prints: the answer's text, or else the line of its refusal
+pub printed_so : {P : Refusal → Type 0} (file : List ℕ) (r : Result (ArrayVec ℕ) Refusal) → Rendering (outcome_of unit_limits file) r → (text : ArrayVec ℕ) →
+    MatchResult r (λ t. text ≡ t) P → ((e : Refusal) → P e → text.items ≡ printed_of (refused (fault_number e.fault) e.line)) → text.items ≡ printed_for file
+printed_so {P} file r p text h line = go (outcome_of unit_limits file) r p h
   where
-    go : (o : Outcome) → Rendering o before text (Err e) → Front before (printed_of o) after next
-    go (accepted st) q = let r = q.reply in let z : ◌≡◌ {A = ℕ} 0 1 = cc in absurd (omega arith)
-    go (refused number line) q =
-        let same : refusal k e.line ≡ refusal number line = ap₂ refusal (f ∙ ap reply_number q.reply) (ap reply_value q.reply) in
-        record {
-          count = w.written.place ∙ zero-add (length (refusal k e.line)) ∙ ap length same;
-          buffer =
-              w.written.buffer
-              ∙ ap (λ (i : ℕ). refusal k e.line ++ drop i text) (zero-add (length (refusal k e.line)))
-              ∙ ap (λ (t : List ℕ). t ++ drop (length t) text) same
-              ∙ ap (λ (l : List ℕ). refusal number line ++ drop (length (refusal number line)) l) q.buffer;
-        }
+    go : (o : Outcome) (q : Result (ArrayVec ℕ) Refusal) → Rendering o q → MatchResult q (λ t. text ≡ t) P → text.items ≡ printed_of o
+    go (accepted st) (Ok t) k m = ap (λ (v : ArrayVec ℕ). v.items) m ∙ k
+    go (accepted st) (Err e) k m = absurd k
+    go (refused number l) (Ok t) k m = absurd k
+    go (refused number l) (Err e) k m = line e m ∙ ap₂ (λ (n i : ℕ). printed_of (refused n i)) (ap reply_number k) (ap reply_value k)

@@ -1,13 +1,14 @@
 -- A text takes at most as many bytes as its pattern and 20 digits to a number.
-use native.Mathlib.Omega.{arith}
+use Rattle.std.proofs.Common.{arith, rules, ap, length, length-append}
+use Rattle.spelling.specs.Pattern.{spell}
 use Rattle.answers.proofs.Length.{spell_fits}
 use Rattle.answers.proofs.write_line.Goals as goal
 
 pub write_as-requires : goal.write_as-requires
-write_as-requires c = omega (arith, spell_fits c.args.pattern.now c.args.values.now c.type_inv.values, c.requires)
+write_as-requires c = (search rules, omega (arith, spell_fits c.args.pattern.now c.args.values.now c.type_inv.values, c.requires))
 
-pub returns : goal.returns
-returns c = record {
-  written = c.write_as.ensures;
-  within = spell_fits c.args.pattern.now c.args.values.now c.type_inv.values;
-}
+pub returns-clause-within : goal.returns-clause-within
+returns-clause-within c =
+    let p = c.args.pattern.now in
+    let v = c.args.values.now in
+    omega (arith, spell_fits p v c.type_inv.values, ap length c.write_as.ensures, length-append c.args.text.now.items (spell p v))

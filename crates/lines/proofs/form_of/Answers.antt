@@ -1,32 +1,30 @@
--- `lines::form_of` meets its contract: each return cites what the patterns tried so far gave. Assumes nothing.
-use lib.Dec.{lit≤}
-use Rattle.spelling.specs.Text.{bytes}
-use Rattle.spelling.specs.Scanning.{places}
-use Rattle.forms.specs.declared.Kind.TheVariants.{Drawn}
-use Rattle.lines.specs.Spellings.{fill_pattern, rect_pattern}
-use Rattle.lines.specs.Reading.{fill_form, shape_form, form_of}
-use Rattle.lines.proofs.Reading.{fill_by, shape_by, first_read, second_read, neither_read}
+-- The patterns in turn: what a line spells by one of them, or else by those behind it.
+use Rattle.std.proofs.Common.{◌≡◌, Option, Some, None, List, ℕ, MatchOption, option_map, unwrap_or, ap, rules, ◌∙◌}
+use Rattle.spelling.specs.Pattern.{read_as}
+use Rattle.forms.specs.declared.Form.{Form}
+use Rattle.forms.specs.declared.Kind.TheVariants.{Drawn, Dummy}
+use Rattle.forms.specs.Limits.{unit_limits}
+use Rattle.lines.specs.Spellings.{one_gap_pattern, two_gaps_pattern, shape_pattern, fill_pattern, end_pattern}
+use Rattle.lines.specs.Reading.{one_gap_form, two_gaps_form, shape_form, fill_form, end_form, form_if, form_of}
 use Rattle.lines.proofs.form_of.Goals as goal
 
-pub read_as-fill-requires : goal.read_as-fill-requires
-unfolding places
-read_as-fill-requires c = (lit≤ tt, lit≤ tt)
+by_pattern : (form : List ℕ → Form) (o : Option (List ℕ)) (r : Option Form) → r ≡ option_map form o → (other : Form) → unwrap_or r other ≡ form_if o form other
+by_pattern form None r e other = ap (λ (q : Option Form). unwrap_or q other) e
+by_pattern form (Some ns) r e other = ap (λ (q : Option Form). unwrap_or q other) e
 
-pub returns-then-fill : goal.returns-then-fill
-unfolding form_of bytes fill_pattern
-returns-then-fill c = first_read fill_pattern rect_pattern fill_form (shape_form Drawn) _ c.args.line.now _ c.read_as-fill.ensures fill_by _
-    c.if-fill.true c.fill_form.ensures
-
-pub read_as-rect-requires : goal.read_as-rect-requires
-unfolding places
-read_as-rect-requires c = (lit≤ tt, lit≤ tt)
-
-pub returns-then-rect : goal.returns-then-rect
-unfolding form_of bytes fill_pattern rect_pattern
-returns-then-rect c = second_read fill_pattern rect_pattern fill_form (shape_form Drawn) _ c.args.line.now _ c.read_as-fill.ensures
-    c.if-fill.false _ c.read_as-rect.ensures (shape_by _) _ c.if-rect.true c.shape_form.ensures
+or_by_pattern : {P : Type 0} (form : List ℕ → Form) (o : Option (List ℕ)) (p r : Option Form) → MatchOption p P (λ x. r ≡ Some x) →
+    (P → r ≡ option_map form o) → (other : Form) → unwrap_or r other ≡ unwrap_or p (form_if o form other)
+or_by_pattern form o None r h f other = by_pattern form o r (f h) other
+or_by_pattern form o (Some x) r h f other = ap (λ (q : Option Form). unwrap_or q other) h
 
 pub returns : goal.returns
-unfolding form_of bytes fill_pattern rect_pattern
-returns c = neither_read fill_pattern rect_pattern fill_form (shape_form Drawn) _ c.args.line.now _ c.read_as-fill.ensures
-    c.if-fill.false _ c.read_as-rect.ensures _ c.if-rect.false c.rare_form.ensures
+unfolding form_of
+returns c =
+    let read = λ (p : List ℕ). read_as unit_limits.digits p c.args.line.now in
+    c.unwrap_or.ensures
+    ∙ or_by_pattern two_gaps_form (read two_gaps_pattern) c.or_else-4.result c.or_else-5.result c.or_else-5.ensures (λ e. search rules) _
+    ∙ or_by_pattern one_gap_form (read one_gap_pattern) c.or_else-3.result c.or_else-4.result c.or_else-4.ensures (λ e. search rules) _
+    ∙ or_by_pattern end_form (read end_pattern) c.or_else-2.result c.or_else-3.result c.or_else-3.ensures (λ e. search rules) _
+    ∙ or_by_pattern (shape_form Dummy) (read (shape_pattern Dummy)) c.or_else.result c.or_else-2.result c.or_else-2.ensures (λ e. search rules) _
+    ∙ or_by_pattern (shape_form Drawn) (read (shape_pattern Drawn)) c.fill.result c.or_else.result c.or_else.ensures (λ e. search rules) _
+    ∙ by_pattern fill_form (read fill_pattern) c.fill.result c.fill.ensures _

@@ -1,55 +1,35 @@
 -- The invariant: the numbers found so far, in front of what the rest of the pattern reads in the rest of the line, are what the whole reads.
-use Prim.Native.Nat.{◌<◌}
-use native.Mathlib.Omega.{arith}
-use Rattle.spelling.specs.Scanning.{most_values}
-use Rattle.spelling.proofs.Progress.{read_start, room, number_missing, number_read, line_short, byte_other, byte_read, bytes_left, all_read}
+use Rattle.std.proofs.Common.{arith, sym, ◌∙◌}
+use borrow.Author.Tests.{eqb-true, eqb-false}
+use Rattle.spelling.proofs.Progress.{number_left, number_missing, number_read, byte_missing, byte_read, bytes_left, all_read}
 use Rattle.spelling.proofs.read_as.Goals as goal
+use Rattle.spelling.proofs.read_as.Goals.{then-c-eq35+in_ok-value, else-c-eq35+in_ok-rest}
 
-pub loop-j-init : goal.loop-j-init
-loop-j-init c = search read_start
-
-cell_free : (c : goal.Then-n) → c.loop-j.count < most_values
-cell_free c = search room
-
-pub offset_bounds-values-count : goal.offset_bounds-values-count
-offset_bounds-values-count c = omega (arith, cell_free c)
+pub returns-in_err-value : goal.returns-in_err-value
+returns-in_err-value g c =
+    c.from_residual.ensures ∙ number_missing c.loop-c.invariant c.loop-c-test.true c.if-c-eq35.true (sym c.in_err-value.ensures.is_number)
 
 pub bounds-values-count : goal.bounds-values-count
-bounds-values-count c = omega (arith, cell_free c)
+bounds-values-count g c = omega (arith, number_left c.loop-c.invariant c.loop-c-test.true c.if-c-eq35.true, c.requires.numbers)
 
-pub overflow_add-count : goal.overflow_add-count
-overflow_add-count c = omega (arith, cell_free c)
+pub returns-in_err-rest : goal.returns-in_err-rest
+returns-in_err-rest g c =
+    c.from_residual-in_err-rest.ensures ∙ byte_missing c.loop-c.invariant c.loop-c-test.true c.if-c-eq35.false c.in_err-rest.ensures.cases
 
-pub loop-j-preserved-then-n : goal.loop-j-preserved-then-n
-loop-j-preserved-then-n c = search number_read
+pub loop-c-preserved : goal.loop-c-preserved
+loop-c-preserved g c = elim c.if-c-eq35.branch [
+  | then-c-eq35+in_ok-value w ↦
+      let n = w.in_ok-value in
+      rw (w.values-is, w.count-is, w.rest-is, n.ensures.rest)
+      (number_read c.loop-c.invariant c.loop-c-test.true w.if-c-eq35.true (sym n.ensures.is_number) n.value n.ensures.value)
+  | else-c-eq35+in_ok-rest w ↦
+      let n = w.in_ok-rest in
+      rw (w.values-is, w.count-is, w.rest-is, n.ensures.cases.1)
+      (byte_read c.loop-c.invariant c.loop-c-test.true w.if-c-eq35.false n.ensures.cases.0)
+]
 
-pub returns-else-n : goal.returns-else-n
-returns-else-n c = search number_missing
+pub returns-then-is_empty : goal.returns-then-is_empty
+returns-then-is_empty g c = all_read c.loop-c.invariant c.loop-c-test.false (eqb-true _ 0 (sym c.if-is_empty.ensures))
 
-pub returns-then-line-at : goal.returns-then-line-at
-returns-then-line-at c = search line_short
-
-pub returns-then-line-at-2 : goal.returns-then-line-at-2
-returns-then-line-at-2 c = search byte_other
-
-pub loop-j-preserved : goal.loop-j-preserved
-loop-j-preserved c = let args = c.args in
-    byte_read
-    args.digits
-    args.pattern.now
-    args.line.now
-    c.loop-j.values
-    c.loop-j.count
-    c.loop-j.at
-    c.loop-j.j
-    c.loop-j.invariant
-    c.loop-j-test.true
-    c.if-c-eq35.false
-    c.if-line-at.false
-    c.if-line-at-2.false
-
-pub returns-then-at-line : goal.returns-then-at-line
-returns-then-at-line c = search bytes_left
-
-pub returns : goal.returns
-returns c = search all_read
+pub returns-else-is_empty : goal.returns-else-is_empty
+returns-else-is_empty g c = bytes_left c.loop-c.invariant c.loop-c-test.false (eqb-false _ 0 (sym c.if-is_empty.ensures))

@@ -1,33 +1,29 @@
--- The invariant: what the rest of the pattern spells with the numbers left, written where the loop has come to, makes the whole.
-use Prim.Native.Nat.{◌<◌}
-use native.Mathlib.Omega.{arith}
-use lib.ListN.{length}
-use Rattle.spelling.proofs.Writing.{write_start, number_left, number_fits, number_written, byte_written, all_written}
+-- The invariant: what the rest of the pattern spells with the numbers left, behind what is written, makes the whole.
+use Rattle.std.proofs.Common.{inl, inr, rules}
+use Rattle.spelling.proofs.Writing.{number_fits, number_written, byte_fits, byte_written, all_written}
 use Rattle.spelling.proofs.write_as.Goals as goal
+use Rattle.spelling.proofs.write_as.Goals.{in-Some, in_default, in_default-via-in-Some+else-c-eq35, in_default-via-in_default}
 
-pub loop-j-init : goal.loop-j-init
-loop-j-init c = search write_start
+pub write_number-requires : goal.write_number-requires
+write_number-requires g c =
+    (search rules, number_fits c.loop-c.invariant c.loop-c-test.true c.in-Some.ensures.cases.0 c.if-c-eq35.true c.requires)
 
-left : (c : goal.Then-takes_number) → c.loop-j.k < length c.args.values.now
-left c = search number_left
+pub push-requires : goal.push-requires
+push-requires g c = elim c.in_default.branch [
+  | in_default-via-in-Some+else-c-eq35 w ↦ (search rules, byte_fits c.loop-c.invariant c.loop-c-test.true (inr w.if-c-eq35.false) c.requires)
+  | in_default-via-in_default w ↦ (search rules, byte_fits c.loop-c.invariant c.loop-c-test.true (inl w.in_default.ensures.cases) c.requires)
+]
 
-pub offset_bounds-values-k : goal.offset_bounds-values-k
-offset_bounds-values-k c = omega (arith, left c)
-
-pub bounds-values-k : goal.bounds-values-k
-bounds-values-k c = search number_left
-
-pub write_number-to-requires : goal.write_number-to-requires
-write_number-to-requires c = search number_fits
-
-pub overflow_add-k : goal.overflow_add-k
-overflow_add-k c = let h : c.loop-j.k < length c.args.values.now = search number_left in omega arith
-
-pub loop-j-preserved-then-takes_number : goal.loop-j-preserved-then-takes_number
-loop-j-preserved-then-takes_number c = search number_written
-
-pub loop-j-preserved : goal.loop-j-preserved
-loop-j-preserved c = search byte_written
+pub loop-c-preserved : goal.loop-c-preserved
+loop-c-preserved g c = elim c.match-split_first.branch [
+  | in-Some w ↦
+      rw (w.text-is, w.left-is, w.write_number.ensures)
+      (number_written c.loop-c.invariant c.loop-c-test.true w.in-Some.ensures.cases.0 w.if-c-eq35.true)
+  | in_default w ↦ rw (w.text-is, w.left-is, w.push.ensures.items) (elim w.in_default.branch [
+    | in_default-via-in-Some+else-c-eq35 k ↦ byte_written c.loop-c.invariant c.loop-c-test.true (inr k.if-c-eq35.false)
+    | in_default-via-in_default k ↦ byte_written c.loop-c.invariant c.loop-c-test.true (inl k.in_default.ensures.cases)
+  ])
+]
 
 pub returns : goal.returns
-returns c = search all_written
+returns g c = all_written c.loop-c.invariant c.loop-c-test.false

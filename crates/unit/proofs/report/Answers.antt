@@ -1,15 +1,11 @@
 -- `unit::report` meets its contract. Assumes nothing.
-use lib.Dec.{lit≤}
-use Rattle.spelling.specs.Text.{bytes}
-use Rattle.answers.proofs.Rooms.{in_room}
-use Rattle.unit.proofs.Replying.{reported, printed_answer, printed_refusal}
+use Rattle.std.proofs.Common.{subst, List, ℕ, rules}
+use Rattle.buffers.specs.Written.{Front}
+use Rattle.unit.proofs.Replying.{reported, printed_so}
 use Rattle.unit.proofs.report.Goals as goal
 
-pub returns-in-Ok : goal.returns-in-Ok
-returns-in-Ok c = reported (printed_answer c.args.file.now c.args.out.now _ _ c.in-Ok.ensures)
-
-pub returns-in-Err : goal.returns-in-Err
-unfolding bytes
-returns-in-Err c =
-    reported
-    (printed_refusal c.args.file.now c.args.out.now _ c.in-Err.refusal c.in-Err.ensures _ c.number.ensures _ _ (in_room (lit≤ tt) c.write_line.ensures))
+pub returns : goal.returns
+returns c =
+    let text = c.unwrap_or_else-text.result in
+    let so = printed_so c.args.file.now c.render.result c.render.ensures text c.unwrap_or_else-text.ensures (λ e h. search rules) in
+    reported (subst (λ (t : List ℕ). Front c.args.out.now t c.copy_front.new.out c.copy_front.result) so c.copy_front.ensures)

@@ -14,14 +14,14 @@ plus-settled-requires-clause-small c =
 pub loop-place-preserved : goal.loop-place-preserved
 loop-place-preserved c =
     elim c.if-overlap_of-gt0.branch [
-      then-overlap_of-gt0+then-may_bend w ↦
-        rw (w.own-is, w.settled-is)
-        (settling_kept _ _ _ _ _ _ _ c.loop-place.invariant c.loop-place-test.true _ w.may_bend.ensures w.if-may_bend.true c.args.left.listed _ w.push.ensures.items)
+      | then-overlap_of-gt0+then-may_bend w ↦
+          rw (w.own-is, w.settled-is)
+          (settling_kept _ _ _ _ _ _ _ c.loop-place.invariant c.loop-place-test.true _ w.may_bend.ensures w.if-may_bend.true c.args.left.listed _ w.push.ensures.items)
       | then-overlap_of-gt0+else-may_bend w ↦
-        rw (w.own-is, w.settled-is)
-        (settling_straight _ _ _ _ _ _ _ c.loop-place.invariant c.loop-place-test.true _ w.may_bend.ensures w.if-may_bend.false c.args.p.full _ w.corner_overlaps.ensures
-        _ w.plus-settled.ensures.extent w.plus-settled.ensures.corners)
+          rw (w.own-is, w.settled-is)
+          (settling_straight _ _ _ _ _ _ _ c.loop-place.invariant c.loop-place-test.true _ w.may_bend.ensures w.if-may_bend.false c.args.p.full _ w.corner_overlaps.ensures
+          _ w.plus-settled.ensures.extent w.plus-settled.ensures.corners)
       | else-overlap_of-gt0 w ↦
-        rw (w.own-is, w.settled-is)
-        (settling_missed _ _ _ _ _ _ _ c.loop-place.invariant c.loop-place-test.true _ _ c.reached_box-reach.ensures c.overlap_of.ensures w.if-overlap_of-gt0.false)
+          rw (w.own-is, w.settled-is)
+          (settling_missed _ _ _ _ _ _ _ c.loop-place.invariant c.loop-place-test.true _ _ c.reached_box-reach.ensures c.overlap_of.ensures w.if-overlap_of-gt0.false)
     ]

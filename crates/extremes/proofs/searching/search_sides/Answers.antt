@@ -1,16 +1,13 @@
--- `extremes::searching::search_sides` meets its contract. The loop's invariant: the sides that are left, tried from where the search stands, give the
--- whole. The measure is what is left of the list. Assumes nothing.
-use Rattle.extremes.proofs.Sweeping.{searching_starts, searching_may, searching_next, searching_ends}
+-- `extremes::searching::search_sides` meets its contract. Assumes nothing.
+use Rattle.std.proofs.Common.{◌+◌}
+use native.Mathlib.Omega.{arith}
+use Rattle.std.proofs.lemmas.Grind.{common_steps}
 use Rattle.extremes.proofs.searching.search_sides.Goals as goal
 
-pub loop-i-init : goal.loop-i-init
-loop-i-init c = search searching_starts
-
-pub try_side-tried-requires-clause-behind : goal.try_side-tried-requires-clause-behind
-try_side-tried-requires-clause-behind c = search searching_may
-
-pub loop-i-preserved : goal.loop-i-preserved
-loop-i-preserved c = search searching_next
-
-pub returns : goal.returns
-returns c = search searching_ends
+pub loop-side-preserved : goal.loop-side-preserved
+loop-side-preserved c = let at = c.loop-side in record {
+  along = grind (arith, common_steps);
+  leads = grind (arith, common_steps);
+  left_earlier = λ d h. grind (arith, common_steps, at.invariant.left_earlier d, c.requires at.side-index (at.side-index + 1) d);
+  right_earlier = grind (arith, common_steps);
+}

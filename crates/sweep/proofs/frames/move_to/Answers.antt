@@ -1,7 +1,7 @@
 -- `sweep::frames::move_to` meets its contract. Assumes nothing.
 use native.Mathlib.Omega.{arith}
 use borrow.Author.Rules.{rules}
-use Rattle.sweep.proofs.Moving.{low_before, high_before, gained_fits, lost_below, frame_moved, true_area}
+use Rattle.sweep.proofs.Moving.{low_before, high_before, gained_fits, lost_below}
 use Rattle.sweep.proofs.frames.move_to.Goals as goal
 
 pub overflow_add-result : goal.overflow_add-result
@@ -26,13 +26,6 @@ pub overflow_sub-result : goal.overflow_sub-result
 overflow_sub-result c = let a = c.args in
     lost_below a.lows.now a.highs.now a.left a.right _ _ c.advance-low.ensures
     c.advance-high.ensures c.requires.strip c.requires.columns_in_order
-
-pub returns : goal.returns
-returns c = let a = c.args in
-    let moved =
-    frame_moved a.lows.now a.highs.now a.left a.right _ _ c.advance-low.ensures
-    c.advance-high.ensures in
-    record { value = moved; true_area = true_area a.lows.now a.highs.now _ a.left a.right moved c.requires.columns_in_order.order }
 
 pub advance-low-requires : goal.advance-low-requires
 advance-low-requires c = search (low_before, rules)

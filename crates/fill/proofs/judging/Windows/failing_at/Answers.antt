@@ -5,7 +5,7 @@ use Rattle.fill.proofs.judging.Windows.failing_at.Goals as goal
 
 pub failed-requires : goal.failed-requires
 failed-requires c =
-    let sums = c.args.self.loads.corner_sums in (
+    let sums = c.args.self.loads.now.corner_sums in (
       load_light sums (upper_inside c.requires _ c.tiles_for_upper.ensures) c.load-outer.ensures,
       load_light sums (lower_inside c.requires _ c.tiles_for_lower.ensures) c.load-inner.ensures,
     )

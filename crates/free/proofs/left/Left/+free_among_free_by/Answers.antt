@@ -1,8 +1,6 @@
 -- The two parts of a box that is cut have its free squares, and the places that are kept are enough for a box.
-use mathlib.Core.Path.{◌∙◌}
 use native.Mathlib.Omega.{arith}
-use Rattle.free.proofs.Held.{agree_free}
-use Rattle.free.proofs.Settling.{covered_free}
+use Rattle.free.proofs.Settling.{covered_free, enough_free}
 use Rattle.free.proofs.Halves.{both_free, both_fit}
 use Rattle.free.proofs.left.Left.+free_among_free_by.Goals as goal
 
@@ -18,4 +16,4 @@ pub free_by-returns-in-None : goal.free_by-returns-in-None
 free_by-returns-in-None t c = covered_free _ _ c.in-None.ensures
 
 pub free_by-returns-in-Some : goal.free_by-returns-in-Some
-free_by-returns-in-Some t c = rw c.as_slice.ensures.value at c.free_among.ensures ∙ agree_free _ _ _ c.in-Some.ensures.same
+free_by-returns-in-Some t c = enough_free _ _ c.in-Some.ensures _ c.free_among.ensures

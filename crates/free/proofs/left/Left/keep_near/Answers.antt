@@ -1,4 +1,4 @@
-use mathlib.Core.Path.{sym, ◌∙◌}
+use mathlib.Core.Path.{refl, sym, ◌∙◌}
 use native.Mathlib.Omega.{arith}
 use Rattle.free.proofs.Places.{covered_by, keeping_far, keeping_spare, keeping_one, keeping_ends}
 use Rattle.free.proofs.left.Left.keep_near.Goals as goal
@@ -25,4 +25,5 @@ loop-place-preserved c =
     ]
 
 pub returns : goal.returns
-returns c = keeping_ends c.args.self _ c.region-c.result _ _ c.loop-place.invariant c.region-c.ensures c.requires (omega arith)
+returns c =
+    keeping_ends c.args.self _ c.region-c.result _ _ c.loop-place.invariant c.region-c.ensures _ refl refl c.as_slice.ensures.value c.requires.has_lead (omega arith)

@@ -1,9 +1,6 @@
 -- `sweep::sweeps::Sweep::move_to` meets its contract. Assumes nothing.
-use Rattle.sweep.proofs.Moving.{sweep_strip, sweep_may, sweep_stands, sweep_area}
+use Rattle.sweep.proofs.Moving.{sweep_may, sweep_stands}
 use Rattle.sweep.proofs.sweeps.Sweep.move_to.Goals as goal
-
-pub move_to-self-requires-clause-strip : goal.move_to-self-requires-clause-strip
-move_to-self-requires-clause-strip c = sweep_strip c.args.self.now.strip.now c.args.self.now.frame _ _ c.deref.ensures.0 c.deref-2.ensures.0
 
 pub move_to-self-requires-clause-behind : goal.move_to-self-requires-clause-behind
 move_to-self-requires-clause-behind c = let z = c.args.self.now in
@@ -12,7 +9,3 @@ move_to-self-requires-clause-behind c = let z = c.args.self.now in
 pub invariant_of-self : goal.invariant_of-self
 invariant_of-self c = let r = c.move_to-self.ensures in
     record { stands = sweep_stands c.args.self.now.strip.now _ _ _ c.deref.ensures.0 c.deref-2.ensures.0 _ _ r.value r.true_area }
-
-pub returns-clause-area : goal.returns-clause-area
-returns-clause-area c = let r = c.move_to-self.ensures in
-    sweep_area c.args.self.now.strip.now _ _ _ c.deref.ensures.0 c.deref-2.ensures.0 _ _ r.value r.true_area

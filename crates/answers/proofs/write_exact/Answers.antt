@@ -1,9 +1,0 @@
--- `answers::write_exact` meets its contract. Assumes nothing.
-use lib.Dec.{lit≤}
-use Rattle.spelling.specs.Text.{bytes}
-use Rattle.answers.proofs.Rooms.{in_room}
-use Rattle.answers.proofs.write_exact.Goals as goal
-
-pub returns : goal.returns
-unfolding bytes
-returns c = in_room (lit≤ tt) c.write_line.ensures
