@@ -11,6 +11,7 @@ use Rattle.levels.specs.declared.Level.{Level}
 use Rattle.zoom.specs.declared.Quick.{Quick}
 use Rattle.fill.specs.declared.Bound.{Bound}
 use Rattle.fill.specs.declared.Bound.TheVariants.{Over, Under}
+use Rattle.fill.specs.declared.Failure.{Failure}
 use Rattle.fill.specs.declared.Verdict.{Verdict}
 use Rattle.fill.specs.declared.Verdict.TheVariants.{Safe, Broken, Undecided}
 use Rattle.positions.specs.declared.Tally.{Tally}
@@ -56,13 +57,13 @@ abbrev pub bound_word : Bound → List ℕ
 bound_word Over = bytes " over"
 bound_word Under = bytes " under"
 
-abbrev pub failing_start : Bound → (i j : ℕ) → List ℕ
-failing_start b i j = bound_word b ++ spell (bytes " # #)\n") (i ∷ j ∷ [])
+abbrev pub failing_start : Failure → List ℕ
+failing_start f = bound_word f.bound ++ spell (bytes " # #)\n") (f.column ∷ f.row ∷ [])
 
 abbrev pub verdict_line : Verdict → List ℕ
 verdict_line Safe = bytes "(fill safe)\n"
-verdict_line (Broken b i j) = bytes "(fill broken" ++ failing_start b i j
-verdict_line (Undecided b i j) = bytes "(fill undecided" ++ failing_start b i j
+verdict_line (Broken f) = bytes "(fill broken" ++ failing_start f
+verdict_line (Undecided f) = bytes "(fill undecided" ++ failing_start f
 
 -- the six lines
 unfoldable pub text_of : Answer → List ℕ

@@ -10,7 +10,7 @@ ghost use Rattle.answers.specs.Room.{number_room, exact_room, zoom_word_room, en
 
 use arrayvec::ArrayVec;
 use extremes::Extremes;
-use fill::{Bound, Verdict};
+use fill::{Bound, Failure, Verdict};
 use geometry::Sense;
 use levels::Level;
 use positions::Tally;
@@ -163,14 +163,14 @@ fn bound_word(b: Bound) -> &'static [u8]
 }
 
 // Writes a verdict's word and the failing start that it names.
-fn write_failing(word: &[u8], b: Bound, column: u64, row: u64, text: &mut Text)
+fn write_failing(word: &[u8], f: Failure, text: &mut Text)
     requires { array_vec_len text.old + (length word.now + start_room) ≤ answer_room }
-    ensures written { text.new.items ≡ text.old.items ++ (word.now ++ failing_start b column row) }
+    ensures written { text.new.items ≡ text.old.items ++ (word.now ++ failing_start f) }
     ensures within { array_vec_len text.new ≤ array_vec_len text.old + (length word.now + start_room) }
 {
     write_word(word, text);
-    write_word(bound_word(b), text);
-    write_line(b" # #)\n", &[column, row], text);
+    write_word(bound_word(f.bound), text);
+    write_line(b" # #)\n", &[f.column, f.row], text);
 }
 
 fn write_verdict(v: Verdict, text: &mut Text)
@@ -180,14 +180,8 @@ fn write_verdict(v: Verdict, text: &mut Text)
 {
     match v {
         Verdict::Safe => write_word(b"(fill safe)\n", text),
-        Verdict::Broken(b, column, row) => write_failing(b"(fill broken", b, column, row, text),
-        Verdict::Undecided(b, column, row) => write_failing(
-            b"(fill undecided",
-            b,
-            column,
-            row,
-            text,
-        ),
+        Verdict::Broken(f) => write_failing(b"(fill broken", f, text),
+        Verdict::Undecided(f) => write_failing(b"(fill undecided", f, text),
     }
 }
 

@@ -20,7 +20,8 @@ pub(crate) fn reached_box(w: u64, b: Rect) -> Rect
     }
 }
 
-// The squares that every window from the box has, its far sides included.
+// The squares that every window from the box has, its far sides included. As one
+// function with the one above, told which sides to take, it would be no plainer.
 pub(crate) fn shared_box(w: u64, b: Rect) -> Rect
     requires { (w ≤ widest) × FullBox b }
     ensures { result ≡ shared w b }
@@ -37,17 +38,14 @@ pub(crate) fn shared_box(w: u64, b: Rect) -> Rect
 fn is_inside(low: u64, high: u64, at: u64) -> bool
     ensures { result ≡ inside low high at }
 {
-    if low < at { at < high } else { false }
+    low < at && at < high
 }
 
 // Whether one of two places does.
 fn one_inside(low: u64, high: u64, c: u64, d: u64) -> bool
     ensures { result ≡ (inside low high c || inside low high d) }
 {
-    if is_inside(low, high, c) {
-        return true;
-    }
-    is_inside(low, high, d)
+    is_inside(low, high, c) || is_inside(low, high, d)
 }
 
 // Whether an edge of a window, moving between two positions, meets an end of a span
@@ -56,10 +54,7 @@ fn bends_between(w: u64, c: u64, d: u64, low: u64, high: u64) -> bool
     requires { (low + w < 2 ^ 64) × (high + w < 2 ^ 64) }
     ensures { result ≡ bends_between w c d low high }
 {
-    if one_inside(low, high, c, d) {
-        return true;
-    }
-    one_inside(low + w, high + w, c, d)
+    one_inside(low, high, c, d) || one_inside(low + w, high + w, c, d)
 }
 
 // Whether the overlap of a rectangle with the window may bend inside the box.
@@ -67,8 +62,5 @@ pub(crate) fn may_bend(w: u64, b: Rect, r: Rect) -> bool
     requires { (w ≤ widest) × FullBox b }
     ensures { result ≡ bends w b r }
 {
-    if bends_between(w, r.x1, r.x2, b.x1, b.x2) {
-        return true;
-    }
-    bends_between(w, r.y1, r.y2, b.y1, b.y2)
+    bends_between(w, r.x1, r.x2, b.x1, b.x2) || bends_between(w, r.y1, r.y2, b.y1, b.y2)
 }

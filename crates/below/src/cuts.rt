@@ -2,14 +2,12 @@
 // a rectangle that is left, nearest the middle. Every cut inside the box is right, so
 // no contract says which one is taken.
 ghost use Rattle.std.specs.Prelude.{◌≤◌, ◌<◌, length};
-ghost use Rattle.geometry.specs.Layout.{Layer};
 ghost use Rattle.geometry.specs.Cuts.{FullBox, InBox, Cuts};
-ghost use Rattle.geometry.specs.Places.{Listed};
 ghost use Rattle.below.specs.Counting.{Bending, Crossed, NearestBend, Offered, LinesFor};
 
 use crate::Axis;
-use crate::places::listed_rect;
-use geometry::{Cut, Lines, Rect, less, nearer_middle};
+use crate::left::Left;
+use geometry::{Cut, Lines, Rect, nearer_middle};
 
 // Of the line so far and the positions where an edge of the window meets an end of the
 // span from c to d, that nearest the middle.
@@ -19,8 +17,8 @@ fn nearest_bend(w: u64, c: u64, d: u64, low: u64, high: u64, line: u64) -> u64
 {
     let at_low = nearer_middle(low, high, line, c);
     let at_high = nearer_middle(low, high, at_low, d);
-    let far_low = nearer_middle(low, high, at_high, less(c, w));
-    nearer_middle(low, high, far_low, less(d, w))
+    let far_low = nearer_middle(low, high, at_high, c.saturating_sub(w));
+    nearer_middle(low, high, far_low, d.saturating_sub(w))
 }
 
 // The better of the lines so far and those by a rectangle.
@@ -34,45 +32,47 @@ fn offer(w: u64, b: Rect, r: Rect, l: Lines) -> Lines
     }
 }
 
-// The lines nearest the middle by all rectangles that are left.
-pub(crate) fn lines_for(rects: &[u64], places: &[u16], w: u64, b: Rect) -> Lines
-    requires full_box { FullBox b }
-    requires layer { Layer rects.now }
-    requires listed { Listed 3 rects.now places.now }
-    requires bending { Bending rects.now places.now w b }
-    ensures { LinesFor (length places.now) b result }
-{
-    let mut lines = Lines {
-        column: b.x1,
-        row: b.y1,
-    };
-    let mut i = 0;
-    while i < places.len() {
-        let r = listed_rect(rects, places, i);
-        lines = offer(w, b, r, lines);
-        i += 1;
-    }
-    lines
-}
-
 // The line of an axis if it crosses the box, else that of the other one.
-pub(crate) fn choose(axis: Axis, b: Rect, l: Lines) -> Cut
+fn choose(axis: Axis, b: Rect, l: Lines) -> Cut
     requires in_box { InBox b l }
     requires crossed { Crossed b l }
     ensures { Cuts b result }
 {
-    match axis {
-        Axis::Across => {
-            if b.x1 < l.column {
-                return Cut::Column(l.column);
-            }
-            Cut::Row(l.row)
+    let by_column = match axis {
+        Axis::Across => b.x1 < l.column,
+        Axis::Down => l.row <= b.y1,
+    };
+    if by_column {
+        Cut::Column(l.column)
+    } else {
+        Cut::Row(l.row)
+    }
+}
+
+impl Left<'_> {
+    // The lines nearest the middle by all its rectangles.
+    fn lines(self, w: u64, b: Rect) -> Lines
+        requires full_box { FullBox b }
+        requires bending { Bending self.rects.now self.places.now w b }
+        ensures { LinesFor (length self.entry.places.now) b result }
+    {
+        let mut lines = Lines {
+            column: b.x1,
+            row: b.y1,
+        };
+        for &place in self.places {
+            lines = offer(w, b, self.rects[place as usize], lines);
         }
-        Axis::Down => {
-            if b.y1 < l.row {
-                return Cut::Row(l.row);
-            }
-            Cut::Column(l.column)
-        }
+        lines
+    }
+
+    // A cut of a box in which the overlap of each of its rectangles may bend.
+    pub(crate) fn cut_for(self, w: u64, axis: Axis, b: Rect) -> Cut
+        requires full_box { FullBox b }
+        requires bending { Bending self.rects.now self.places.now w b }
+        requires places_nonzero { 0 < length self.places.now }
+        ensures { Cuts b result }
+    {
+        choose(axis, b, self.lines(w, b))
     }
 }

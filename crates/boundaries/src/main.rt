@@ -24,51 +24,55 @@ fn show(rt: &(impl Files + Print + Eprint), path: &str) {
 }
 
 // Document 01's limits and edges.
-fn show_limits(rt: &(impl Files + Print + Eprint)) {
-    show(rt, "bytes_60000.job");
-    show(rt, "bytes_60001.job");
-    show(rt, "rects_256.job");
-    show(rt, "rects_257.job");
-    show(rt, "shapes_256.job");
-    show(rt, "shapes_257.job");
-    show(rt, "tiles_64.job");
-    show(rt, "tiles_65.job");
-    show(rt, "fill_all.job");
-    show(rt, "fill_one_more.job");
-    show(rt, "rects_touch.job");
-    show(rt, "corners_touch.job");
-    show(rt, "one_square_shared.job");
-    show(rt, "accuracy_0.job");
-    show(rt, "accuracy_1000.job");
-    show(rt, "window_is_layout.job");
-    show(rt, "empty.job");
-    show(rt, "no_end.job");
-    show(rt, "no_line_feed.job");
-}
+const LIMITS: [&str; 19] = [
+    "bytes_60000.job",
+    "bytes_60001.job",
+    "rects_256.job",
+    "rects_257.job",
+    "shapes_256.job",
+    "shapes_257.job",
+    "tiles_64.job",
+    "tiles_65.job",
+    "fill_all.job",
+    "fill_one_more.job",
+    "rects_touch.job",
+    "corners_touch.job",
+    "one_square_shared.job",
+    "accuracy_0.job",
+    "accuracy_1000.job",
+    "window_is_layout.job",
+    "empty.job",
+    "no_end.job",
+    "no_line_feed.job",
+];
 
 // The largest numbers, each with the next one, and at last positions among bounds in
 // the largest layout.
-fn show_ranges(rt: &(impl Files + Print + Eprint)) {
-    show(rt, "side_1000000.job");
-    show(rt, "side_1000001.job");
-    show(rt, "window_1000000.job");
-    show(rt, "window_1000001.job");
-    show(rt, "gap_1000000.job");
-    show(rt, "gap_1000000_one_more.job");
-    show(rt, "gap_1000001.job");
-    show(rt, "dummy_gap_1000000.job");
-    show(rt, "dummy_gap_1000000_one_more.job");
-    show(rt, "dummy_gap_1000001.job");
-    show(rt, "corner_1000000.job");
-    show(rt, "corner_1000001.job");
-    show(rt, "amount_1000000000000.job");
-    show(rt, "amount_1000000000001.job");
-    show(rt, "digits_13.job");
-    show(rt, "digits_14.job");
-    show(rt, "positions_1000000.job");
-}
+const RANGES: [&str; 17] = [
+    "side_1000000.job",
+    "side_1000001.job",
+    "window_1000000.job",
+    "window_1000001.job",
+    "gap_1000000.job",
+    "gap_1000000_one_more.job",
+    "gap_1000001.job",
+    "dummy_gap_1000000.job",
+    "dummy_gap_1000000_one_more.job",
+    "dummy_gap_1000001.job",
+    "corner_1000000.job",
+    "corner_1000001.job",
+    "amount_1000000000000.job",
+    "amount_1000000000001.job",
+    "digits_13.job",
+    "digits_14.job",
+    "positions_1000000.job",
+];
 
 fn main(rt: HostRuntime) {
-    show_limits(&rt);
-    show_ranges(&rt);
+    for path in LIMITS {
+        show(&rt, path);
+    }
+    for path in RANGES {
+        show(&rt, path);
+    }
 }

@@ -10,7 +10,7 @@ use Rattle.levels.specs.Levels.{level_of}
 use Rattle.zoom.specs.Run.{level_at, run_from, quick_run}
 use Rattle.spacing.specs.Eligible.{clear_of_all}
 use Rattle.spacing.specs.SquareCorners.{clear_of_all_before}
-use Rattle.fill.specs.Judge.{failing_in_row, failing_in_rows, standard_failing, margin_failing}
+use Rattle.fill.specs.Judge.{first_of, standard_failing, margin_failing}
 use Rattle.spelling.specs.Text.{bytes, pieces}
 use Rattle.spelling.specs.Decimal.{decimal, decimal_in, digits_of, past_digits, value_from, same_bytes}
 use Rattle.spelling.specs.Pattern.{spell, read_as}
@@ -26,5 +26,5 @@ use Rattle.cases.specs.Ranges.{prints_each, refusals}
 use Rattle.cases.specs.Table.{table}
 
 pub cases : found_in table ≡ stated_in table
-unfolding rounded sum rect_sum covered best_in_row best_in_rows extreme level_of level_at run_from quick_run count_trailing_zeros clear_of_all clear_of_all_before failing_in_row failing_in_rows standard_failing margin_failing bytes pieces decimal decimal_in digits_of past_digits value_from same_bytes spell read_as one_gap_pattern two_gaps_pattern rect_pattern dummy_pattern fill_pattern end_pattern form_of shape_fault fill_fault line_fault stands_after read_lines outcome_of answer_for text_of printed_lines prints_each refusals
+unfolding rounded sum rect_sum covered best_in_row best_in_rows extreme level_of level_at run_from quick_run count_trailing_zeros clear_of_all clear_of_all_before first_of standard_failing margin_failing bytes pieces decimal decimal_in digits_of past_digits value_from same_bytes spell read_as one_gap_pattern two_gaps_pattern rect_pattern dummy_pattern fill_pattern end_pattern form_of shape_fault fill_fault line_fault stands_after read_lines outcome_of answer_for text_of printed_lines prints_each refusals
 cases = refl

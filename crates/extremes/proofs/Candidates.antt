@@ -21,7 +21,7 @@ use Rattle.geometry.proofs.Bends.{bend_none, common_none, second_difference}
 use Rattle.geometry.specs.Positions.{window_area}
 use Rattle.sweep.specs.declared.Side.TheVariants.{Low, High}
 use Rattle.sweep.specs.Order.{column}
-use Rattle.extremes.specs.Listing.{side, near_of, far_of}
+use Rattle.extremes.specs.Listing.{near_of, far_of, near_row, far_row}
 
 -- a is strictly better than b
 abbrev pub Better : Sense → ℕ → ℕ → Type 0
@@ -159,7 +159,7 @@ overlap_across rs w x y =
     rect_cong rs _ _ (λ r. ap (λ (k : ℕ). k * common r.y1 r.y2 y (y + w)) (common_upright r.x1 r.x2 x (x + w)))
 
 overlap_up : (rs : List Rect) (w x y : ℕ) →
-    overlap_sum rs (window_box w x y) ≡ weighted_sum (side 1) (side 3) (λ r. common r.x1 r.x2 x (x + w)) rs w y
+    overlap_sum rs (window_box w x y) ≡ weighted_sum (λ r. r.y1) (λ r. r.y2) (λ r. common r.x1 r.x2 x (x + w)) rs w y
 overlap_up rs w x y = rect_cong rs _ _ (λ r. mul_comm (common r.x1 r.x2 x (x + w)) (common r.y1 r.y2 y (y + w)))
 
 -- the sides that the window's low and high edge meet in a row
@@ -177,13 +177,7 @@ candidate_across s rs w last x y d h =
     (first_best_cong s (λ z. window_area rs w z y) _ last x (λ z. overlap_is_area rs (window_box w z y) d ∙ overlap_across rs w z y) h)
 
 pub candidate_up : (s : Sense) (rs : List Rect) (w last x y : ℕ) → Disjoint rs → FirstBest s (λ z. window_area rs w x z) last y →
-    Candidate (side (near_of s 1 3)) (side (far_of s 1 3)) (λ r. common r.x1 r.x2 x (x + w)) w last y rs
+    Candidate (near_row s) (far_row s) (λ r. common r.x1 r.x2 x (x + w)) w last y rs
 candidate_up s rs w last x y d h =
-    go s
-    (candidate_of s (side 1) (side 3) (λ r. common r.x1 r.x2 x (x + w)) w rs last y
-    (first_best_cong s (λ z. window_area rs w x z) _ last y (λ z. overlap_is_area rs (window_box w x z) d ∙ overlap_up rs w x z) h))
-  where
-    go : (s : Sense) → Candidate (λ r. near_of s (side 1 r) (side 3 r)) (λ r. far_of s (side 1 r) (side 3 r)) (λ r. common r.x1 r.x2 x (x + w)) w last y rs →
-        Candidate (side (near_of s 1 3)) (side (far_of s 1 3)) (λ r. common r.x1 r.x2 x (x + w)) w last y rs
-    go Greatest c = c
-    go Least c = c
+    candidate_of s (λ r. r.y1) (λ r. r.y2) (λ r. common r.x1 r.x2 x (x + w)) w rs last y
+    (first_best_cong s (λ z. window_area rs w x z) _ last y (λ z. overlap_is_area rs (window_box w x z) d ∙ overlap_up rs w x z) h)

@@ -13,7 +13,8 @@ use Rattle.geometry.specs.declared.Spot.{Spot}
 use Rattle.geometry.specs.declared.Sense.{Sense}
 use Rattle.geometry.specs.Extreme.{better, NoBetter, spot_at}
 use Rattle.geometry.proofs.Extremes.{NoLater, no_later_trans, better_neither, better_self, better_trans, IsBest}
-use Rattle.extremes.specs.Search.{earlier, leads, leading, folded, leading_in_row, leading_in_rows}
+use Rattle.std.specs.List.{fold}
+use Rattle.extremes.specs.Search.{earlier, leads, leading, leading_in_row, leading_in_rows}
 
 -- a is better than b, or as good and no later
 abbrev pub Ahead : Sense → Spot → Spot → Type 0
@@ -76,47 +77,44 @@ module _ (s : Sense) (new old : Spot) where
 -- ---- rows and columns of windows
 
 -- no step falls behind
-module _ (s : Sense) (step : ℕ → Spot → Spot) (before : (p : ℕ) (b : Spot) → Ahead s (step p b) b) where
-  folded_before : (l : List ℕ) (b : Spot) → Ahead s (folded step l b) b
-  unfolding folded
-  folded_before [] b = ahead_refl s b
-  folded_before (p ∷ l) b = ahead_trans s _ _ _ (folded_before l (step p b)) (before p b)
+module _ (s : Sense) (step : Spot → ℕ → Spot) (before : (b : Spot) (p : ℕ) → Ahead s (step b p) b) where
+  fold_before : (l : List ℕ) (b : Spot) → Ahead s (fold step b l) b
+  fold_before [] b = ahead_refl s b
+  fold_before (p ∷ l) b = ahead_trans s _ _ _ (fold_before l (step b p)) (before b p)
 
-  folded_tried : (l : List ℕ) (b a : Spot) (p : ℕ) → Memᴰ p l → ((b : Spot) → Ahead s (step p b) a) → Ahead s (folded step l b) a
-  unfolding folded
-  folded_tried [] b a p m h = elim m [ ]
-  folded_tried (q ∷ l) b a p (Memᴰ.head e) h = ahead_trans s _ _ _ (folded_before l (step q b)) (rw e at (h b))
-  folded_tried (q ∷ l) b a p (Memᴰ.tail m) h = folded_tried l (step q b) a p m h
+  fold_tried : (l : List ℕ) (b a : Spot) (p : ℕ) → Memᴰ p l → ((b : Spot) → Ahead s (step b p) a) → Ahead s (fold step b l) a
+  fold_tried [] b a p m h = elim m [ ]
+  fold_tried (q ∷ l) b a p (Memᴰ.head e) h = ahead_trans s _ _ _ (fold_before l (step b q)) (rw e at (h b))
+  fold_tried (q ∷ l) b a p (Memᴰ.tail m) h = fold_tried l (step b q) a p m h
 
 -- what holds of each window that is tried holds of the one that is left
-folded_one : (P : Spot → Type 0) (step : ℕ → Spot → Spot) (l : List ℕ) (b : Spot) → P b → ((p : ℕ) (b : Spot) → Memᴰ p l → P b → P (step p b)) →
-    P (folded step l b)
-unfolding folded
-folded_one P step [] b h all = h
-folded_one P step (p ∷ l) b h all =
-    folded_one P step l (step p b) (all p b (Memᴰ.head refl) h) (λ q c m k. all q c (Memᴰ.tail m) k)
+fold_one : (P : Spot → Type 0) (step : Spot → ℕ → Spot) (l : List ℕ) (b : Spot) → P b → ((p : ℕ) (b : Spot) → Memᴰ p l → P b → P (step b p)) →
+    P (fold step b l)
+fold_one P step [] b h all = h
+fold_one P step (p ∷ l) b h all =
+    fold_one P step l (step b p) (all p b (Memᴰ.head refl) h) (λ q c m k. all q c (Memᴰ.tail m) k)
 
 -- y is in the list of rows, and x in the list of that row
 abbrev pub Listed : (xs : ℕ → List ℕ) (ys : List ℕ) (x y : ℕ) → Type 0
 Listed xs ys x y = Memᴰ x (xs y) × Memᴰ y ys
 
 module _ (s : Sense) (f : ℕ → ℕ → ℕ) (xs : ℕ → List ℕ) (ys : List ℕ) where
-  row_before : (y : ℕ) (b : Spot) → Ahead s (leading_in_row s f (xs y) y b) b
-  row_before y b = folded_before s (λ x b. leading s b (spot_at f x y)) (λ x b. (leading_ahead s (spot_at f x y) b).0) (xs y) b
+  row_before : (b : Spot) (y : ℕ) → Ahead s (leading_in_row s f (xs y) y b) b
+  row_before b y = fold_before s (λ b x. leading s b (spot_at f x y)) (λ b x. (leading_ahead s (spot_at f x y) b).0) (xs y) b
 
   row_tried : (y : ℕ) (b : Spot) (x : ℕ) → Memᴰ x (xs y) → Ahead s (leading_in_row s f (xs y) y b) (spot_at f x y)
   row_tried y b x m =
-      folded_tried s (λ x b. leading s b (spot_at f x y)) (λ x b. (leading_ahead s (spot_at f x y) b).0) (xs y) b (spot_at f x y) x m
+      fold_tried s (λ b x. leading s b (spot_at f x y)) (λ b x. (leading_ahead s (spot_at f x y) b).0) (xs y) b (spot_at f x y) x m
       (λ b. (leading_ahead s (spot_at f x y) b).1)
 
   rows_tried : (b : Spot) (x y : ℕ) → Listed xs ys x y → Ahead s (leading_in_rows s f xs ys b) (spot_at f x y)
-  rows_tried b x y m = folded_tried s (λ y b. leading_in_row s f (xs y) y b) row_before ys b (spot_at f x y) y m.1 (λ b. row_tried y b x m.0)
+  rows_tried b x y m = fold_tried s (λ b y. leading_in_row s f (xs y) y b) row_before ys b (spot_at f x y) y m.1 (λ b. row_tried y b x m.0)
 
   -- what is left is a window that was tried
   rows_one : (P : Spot → Type 0) (b : Spot) → P b → ((x y : ℕ) → Listed xs ys x y → P (spot_at f x y)) → P (leading_in_rows s f xs ys b)
   rows_one P b h all =
-      folded_one P (λ y b. leading_in_row s f (xs y) y b) ys b h
-      (λ y b k h. folded_one P (λ x b. leading s b (spot_at f x y)) (xs y) b h (λ x b m h. leading_one s (spot_at f x y) b P h (all x y (m, k))))
+      fold_one P (λ b y. leading_in_row s f (xs y) y b) ys b h
+      (λ y b k h. fold_one P (λ b x. leading s b (spot_at f x y)) (xs y) b h (λ x b m h. leading_one s (spot_at f x y) b P h (all x y (m, k))))
 
   -- the search that begins with a listed position
   pub leading_best : (x₀ y₀ : ℕ) → Listed xs ys x₀ y₀ → IsBest s f (Listed xs ys) (leading_in_rows s f xs ys (spot_at f x₀ y₀))

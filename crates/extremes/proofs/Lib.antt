@@ -4,6 +4,4 @@ pub mod Reached
 pub mod Leading
 pub mod Searches
 pub mod Lists
-pub mod Steps
-pub mod Sweeping
 pub mod Promises

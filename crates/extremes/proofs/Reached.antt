@@ -1,27 +1,30 @@
 -- The positions that the search tries in a row have every candidate, and are positions alone. A row's candidates come from the rectangles that its
 -- windows reach, and these are the ones whose sides its strip lists.
 use Prim.Native.Nat.{ℕ, ◌+◌, ◌-◌, ◌*◌, ◌≤◌, ◌<◌}
-use mathlib.Core.Path.{◌≡◌, refl, sym, ap, ap₂, subst}
-use mathlib.Core.Bool.{Bool, true, false, ◌&&◌}
+use mathlib.Core.Path.{◌≡◌, sym, ap₂, subst}
+use mathlib.Core.Bool.{Bool, true, ◌&&◌}
 use mathlib.Core.Logic.{◌⊎◌, inl, inr}
 use mathlib.Core.List.Memᴰ
-use mathlib.Core.List.{List, [], ◌∷◌, ◌++◌, Memᴰ}
+use mathlib.Core.List.{List, [], ◌∷◌, ◌++◌, map, Memᴰ}
 use native.Mathlib.Nat.{add-zero}
 use native.Mathlib.Decide.{ℕ_discrete}
 use native.Mathlib.Omega.{arith}
 use lib.Dec.{leb, eqb}
-use lib.ListN.{length}
+use Rattle.std.specs.Prelude.{filter}
+use Rattle.std.proofs.lemmas.Bool.{cond_both}
+use Rattle.std.proofs.lemmas.List.Sums.{sum_by-cons}
 use borrow.Author.Tests.{le-leb, leb-true, eq-eqb, ne_eqb}
 use Rattle.laws.proofs.Tests.{both}
 use Rattle.geometry.specs.declared.Rect.{Rect}
 use Rattle.geometry.specs.declared.Sense.{Sense}
 use Rattle.geometry.specs.declared.Sense.TheVariants.{Greatest, Least}
 use Rattle.geometry.specs.Count.{one_if, rect_sum}
-use Rattle.geometry.specs.Layout.{rects_of}
 use Rattle.geometry.specs.Overlaps.{common}
 use Rattle.sweep.specs.declared.Side.{Side}
 use Rattle.sweep.specs.declared.Side.TheVariants.{Low, High}
-use Rattle.sweep.specs.Order.{column}
+use Rattle.sweep.specs.declared.Upright.{Upright}
+use Rattle.sweep.specs.declared.sorted.Sorted.{Sorted}
+use Rattle.sweep.specs.Order.{column, InOrder}
 use Rattle.sweep.specs.Strips.{side_sum, strip_sides}
 use Rattle.sweep.proofs.Covered.{strip_sum_lem}
 use Rattle.extremes.specs.Listing.{near_of, far_of}
@@ -58,117 +61,107 @@ meets_weight low high weight w p (r ∷ rs) (further m) = go (meets_weight low h
 -- ---- the positions of a list of sides
 
 module _ (shift last : ℕ) where
+  abbrev is_tried : Upright → Bool
+  is_tried u = is_reached shift last u.column
+
+  abbrev position : Upright → ℕ
+  position u = u.column - shift
+
   reached : (p v : ℕ) → v ≡ p + shift → p ≤ last → is_reached shift last v ≡ true
   reached p v e h = ap₂ ◌&&◌ (le-leb shift v (omega arith)) (le-leb (v - shift) last (omega arith))
 
-  module _ (v h : ℕ) (s : List ℕ) where
-    -- a side adds its position, if that is reached
-    pub positions_cons : (t : Bool) → is_reached shift last v ≡ t →
-        positions_of shift last (v ∷ h ∷ s) ≡ elim t [ true ↦ (v - shift) ∷ positions_of shift last s | false ↦ positions_of shift last s ]
-    unfolding positions_of
-    positions_cons t e = ap (λ (t : Bool). elim t [ true ↦ (v - shift) ∷ positions_of shift last s | false ↦ positions_of shift last s ]) e
-
-    -- so what holds with it and without holds of the list
-    position_either : (P : List ℕ → Type 0) → (is_reached shift last v ≡ true → P ((v - shift) ∷ positions_of shift last s)) →
-        P (positions_of shift last s) → P (positions_of shift last (v ∷ h ∷ s))
-    unfolding positions_of
-    position_either P with_it without = go (is_reached shift last v) refl
-      where
-        go : (t : Bool) → is_reached shift last v ≡ t → P (elim t [ true ↦ (v - shift) ∷ positions_of shift last s | false ↦ positions_of shift last s ])
-        go true e = with_it e
-        go false e = without
-
-  pub short_positions : (s : List ℕ) → length s ≤ 1 → positions_of shift last s ≡ []
-  unfolding positions_of
-  short_positions [] h = refl
-  short_positions (v ∷ []) h = refl
-  short_positions (v ∷ w ∷ s) h = absurd (omega arith)
-
-  positions_complete : (p : ℕ) (s : List ℕ) → p ≤ last → 0 < side_sum (at (p + shift)) s → Memᴰ p (positions_of shift last s)
-  unfolding side_sum positions_of
+  -- a side adds its position, if that is reached
+  positions_complete : (p : ℕ) (s : List Upright) → p ≤ last → 0 < side_sum (at (p + shift)) s → Memᴰ p (positions_of shift last s)
   positions_complete p [] h k = absurd (omega arith)
-  positions_complete p (v ∷ []) h k = absurd (omega arith)
-  positions_complete p (v ∷ w ∷ s) h k = go (ℕ_discrete v (p + shift)) (positions_complete p s h)
+  positions_complete p (u ∷ s) h k = go (ℕ_discrete u.column (p + shift)) (positions_complete p s h)
     where
-      go : Dec (v ≡ p + shift) → (0 < side_sum (at (p + shift)) s → Memᴰ p (positions_of shift last s)) → Memᴰ p (positions_of shift last (v ∷ w ∷ s))
-      go (yes e) ih = subst (Memᴰ p) (sym (positions_cons v w s true (reached p v e h))) (Memᴰ.head (omega arith))
+      rest : ℕ
+      rest = side_sum (at (p + shift)) s
+
+      more : 0 < at (p + shift) u.column u.rows + rest
+      more = omega (arith, sum_by-cons (λ (u : Upright). at (p + shift) u.column u.rows) u s)
+
+      go : Dec (u.column ≡ p + shift) → (0 < rest → Memᴰ p (map position (filter is_tried s))) → Memᴰ p (map position (filter is_tried (u ∷ s)))
+      go (yes e) ih = let same : p ≡ position u = omega arith in rw (reached p u.column e h) (Memᴰ.head same)
       go (no e) ih =
-          let m = ih (omega (arith, at_other (p + shift) v w e)) in
-          position_either v w s (Memᴰ p) (λ _. Memᴰ.tail m) m
+          let m = ih (omega (arith, more, at_other (p + shift) u.column u.rows e)) in
+          cond_both (is_tried u) (u ∷ filter is_tried s) (filter is_tried s) (λ l. Memᴰ p (map position l)) (λ _. Memᴰ.tail m) (λ _. m)
 
-  first_within : (v p : ℕ) (l : List ℕ) → is_reached shift last v ≡ true → (Memᴰ p l → p ≤ last) → Memᴰ p ((v - shift) ∷ l) → p ≤ last
-  first_within v p l e rest m = go (Memᴰ.cases_cons m)
+  positions_within : (s : List Upright) (p : ℕ) → Memᴰ p (positions_of shift last s) → p ≤ last
+  positions_within [] p m = absurd (Memᴰ.not-nil m)
+  positions_within (u ∷ s) p m =
+      cond_both (is_tried u) (u ∷ filter is_tried s) (filter is_tried s) (λ l. Memᴰ p (map position l) → p ≤ last)
+      (λ e k. first e (positions_within s p) (Memᴰ.cases_cons k)) (λ e. positions_within s p) m
     where
-      go : (p ≡ v - shift) ⊎ Memᴰ p l → p ≤ last
-      go (inl q) = omega (arith, leb-true (v - shift) last (both (leb shift v) (leb (v - shift) last) e).1)
-      go (inr q) = rest q
-
-  positions_within : (s : List ℕ) (p : ℕ) → Memᴰ p (positions_of shift last s) → p ≤ last
-  unfolding positions_of
-  positions_within [] p = λ m. absurd (Memᴰ.not-nil m)
-  positions_within (v ∷ []) p = λ m. absurd (Memᴰ.not-nil m)
-  positions_within (v ∷ w ∷ s) p =
-      position_either v w s (λ l. Memᴰ p l → p ≤ last) (λ e. first_within v p (positions_of shift last s) e (positions_within s p)) (positions_within s p)
+      first : is_tried u ≡ true → (Memᴰ p (map position (filter is_tried s)) → p ≤ last) → (p ≡ position u) ⊎ Memᴰ p (map position (filter is_tried s)) → p ≤ last
+      first e rest (inl q) = omega (arith, leb-true (position u) last (both (leb shift u.column) (leb (position u) last) e).1)
+      first e rest (inr q) = rest q
 
 -- ---- the positions that are tried in a row
 
-module _ (t : List ℕ) (n w y : ℕ) where
+module _ (m : Sorted) (n w y : ℕ) where
   abbrev rows : Rect → ℕ
   rows r = common r.y1 r.y2 y (y + w)
 
-  abbrev near : Sense → List ℕ
-  near s = near_of s (strip_sides t Low y (y + w)) (strip_sides t High y (y + w))
+  abbrev lows : List Upright
+  lows = strip_sides m.lows.items Low y (y + w)
 
-  abbrev far : Sense → List ℕ
-  far s = far_of s (strip_sides t Low y (y + w)) (strip_sides t High y (y + w))
+  abbrev highs : List Upright
+  highs = strip_sides m.highs.items High y (y + w)
+
+  abbrev near : Sense → List Upright
+  near s = near_of s lows highs
+
+  abbrev far : Sense → List Upright
+  far s = far_of s lows highs
 
   -- a side of the strip stands where a rectangle with rows in it has one
-  side_listed : (side : Side) (shift p : ℕ) → p ≤ n - w → 0 < rect_sum (rects_of t) (λ r. at (p + shift) (column side r) (rows r)) →
-      Memᴰ p (positions_of shift (n - w) (strip_sides t side y (y + w)))
-  side_listed side shift p h k =
-      positions_complete shift (n - w) p (strip_sides t side y (y + w)) h
-      (subst (λ (i : ℕ). 0 < i) (sym (strip_sum_lem t side y (y + w) (at (p + shift)) (λ v. omega arith))) k)
+  side_listed : (side : Side) (sorted : List Rect) → InOrder side m.rects.now sorted → (shift p : ℕ) → p ≤ n - w →
+      0 < rect_sum m.rects.now (λ r. at (p + shift) (column side r) (rows r)) → Memᴰ p (positions_of shift (n - w) (strip_sides sorted side y (y + w)))
+  side_listed side sorted o shift p h k =
+      positions_complete shift (n - w) p (strip_sides sorted side y (y + w)) h
+      (subst (λ (i : ℕ). 0 < i) (sym (strip_sum_lem m.rects.now sorted side o y (y + w) (at (p + shift)) (λ v. omega arith))) k)
 
-  near_listed : (s : Sense) (p : ℕ) → p ≤ n - w → 0 < rect_sum (rects_of t) (λ r. at p (near_column s r) (rows r)) →
+  near_listed : (s : Sense) (p : ℕ) → p ≤ n - w → 0 < rect_sum m.rects.now (λ r. at p (near_column s r) (rows r)) →
       Memᴰ p (positions_of 0 (n - w) (near s))
-  near_listed s p h k = go s (subst (λ (q : ℕ). 0 < rect_sum (rects_of t) (λ r. at q (near_column s r) (rows r))) (sym (add-zero p)) k)
+  near_listed s p h k = go s (subst (λ (q : ℕ). 0 < rect_sum m.rects.now (λ r. at q (near_column s r) (rows r))) (sym (add-zero p)) k)
     where
-      go : (s : Sense) → 0 < rect_sum (rects_of t) (λ r. at (p + 0) (near_column s r) (rows r)) →
+      go : (s : Sense) → 0 < rect_sum m.rects.now (λ r. at (p + 0) (near_column s r) (rows r)) →
           Memᴰ p (positions_of 0 (n - w) (near s))
-      go Greatest = side_listed Low 0 p h
-      go Least = side_listed High 0 p h
+      go Greatest = side_listed Low m.lows.items m.low 0 p h
+      go Least = side_listed High m.highs.items m.high 0 p h
 
-  far_listed : (s : Sense) (p : ℕ) → p ≤ n - w → 0 < rect_sum (rects_of t) (λ r. at (p + w) (far_column s r) (rows r)) →
+  far_listed : (s : Sense) (p : ℕ) → p ≤ n - w → 0 < rect_sum m.rects.now (λ r. at (p + w) (far_column s r) (rows r)) →
       Memᴰ p (positions_of w (n - w) (far s))
-  far_listed Greatest p h = side_listed High w p h
-  far_listed Least p h = side_listed Low w p h
+  far_listed Greatest p h = side_listed High m.highs.items m.high w p h
+  far_listed Least p h = side_listed Low m.lows.items m.low w p h
 
-  sides_listed : (s : Sense) (p : ℕ) → p ≤ n - w → Meets (near_column s) (far_column s) (λ r. common r.y1 r.y2 y (y + w)) w p (rects_of t) →
-      Memᴰ p (tried_row s w (n - w) t y)
-  sides_listed s p h m = go (meets_weight (near_column s) (far_column s) rows w p (rects_of t) m)
+  sides_listed : (s : Sense) (p : ℕ) → p ≤ n - w → Meets (near_column s) (far_column s) rows w p m.rects.now →
+      Memᴰ p (tried_row s w (n - w) m y)
+  sides_listed s p h k = go (meets_weight (near_column s) (far_column s) rows w p m.rects.now k)
     where
-      go : (0 < rect_sum (rects_of t) (λ r. at p (near_column s r) (rows r))) ⊎ (0 < rect_sum (rects_of t) (λ r. at (p + w) (far_column s r) (rows r))) →
-          Memᴰ p (tried_row s w (n - w) t y)
+      go : (0 < rect_sum m.rects.now (λ r. at p (near_column s r) (rows r))) ⊎ (0 < rect_sum m.rects.now (λ r. at (p + w) (far_column s r) (rows r))) →
+          Memᴰ p (tried_row s w (n - w) m y)
       go (inl k) = Memᴰ.tail (Memᴰ.tail (Memᴰ.append_left (positions_of w (n - w) (far s)) (near_listed s p h k)))
       go (inr k) = Memᴰ.tail (Memᴰ.tail (Memᴰ.append_right (positions_of 0 (n - w) (near s)) (far_listed s p h k)))
 
-  pub tried_complete : (s : Sense) (p : ℕ) → p ≤ n - w → Candidate (near_column s) (far_column s) (λ r. common r.y1 r.y2 y (y + w)) w (n - w) p (rects_of t) →
-      Memᴰ p (tried_row s w (n - w) t y)
+  pub tried_complete : (s : Sense) (p : ℕ) → p ≤ n - w → Candidate (near_column s) (far_column s) (λ r. common r.y1 r.y2 y (y + w)) w (n - w) p m.rects.now →
+      Memᴰ p (tried_row s w (n - w) m y)
   tried_complete s p h (at_start e) = Memᴰ.head e
   tried_complete s p h (at_end_lem e) = Memᴰ.tail (Memᴰ.head e)
-  tried_complete s p h (at_side m) = sides_listed s p h m
+  tried_complete s p h (at_side k) = sides_listed s p h k
 
-  pub tried_within : (s : Sense) (p : ℕ) → Memᴰ p (tried_row s w (n - w) t y) → p ≤ n - w
-  tried_within s p m = go (Memᴰ.append_cases (0 ∷ (n - w) ∷ []) m)
+  pub tried_within : (s : Sense) (p : ℕ) → Memᴰ p (tried_row s w (n - w) m y) → p ≤ n - w
+  tried_within s p k = start (Memᴰ.cases_cons k)
     where
-      ends : (p ≡ 0) ⊎ Memᴰ p ((n - w) ∷ []) → p ≤ n - w
-      ends (inl e) = omega arith
-      ends (inr e) = omega (arith, Memᴰ.eq_of_singleton e)
-
       sides : Memᴰ p (positions_of 0 (n - w) (near s)) ⊎ Memᴰ p (positions_of w (n - w) (far s)) → p ≤ n - w
       sides (inl q) = positions_within 0 (n - w) (near s) p q
       sides (inr q) = positions_within w (n - w) (far s) p q
 
-      go : Memᴰ p (0 ∷ (n - w) ∷ []) ⊎ Memᴰ p (positions_of 0 (n - w) (near s) ++ positions_of w (n - w) (far s)) → p ≤ n - w
-      go (inl q) = ends (Memᴰ.cases_cons q)
-      go (inr q) = sides (Memᴰ.append_cases (positions_of 0 (n - w) (near s)) q)
+      end : (p ≡ n - w) ⊎ Memᴰ p (positions_of 0 (n - w) (near s) ++ positions_of w (n - w) (far s)) → p ≤ n - w
+      end (inl e) = omega arith
+      end (inr q) = sides (Memᴰ.append_cases (positions_of 0 (n - w) (near s)) q)
+
+      start : (p ≡ 0) ⊎ Memᴰ p ((n - w) ∷ (positions_of 0 (n - w) (near s) ++ positions_of w (n - w) (far s))) → p ≤ n - w
+      start (inl e) = omega arith
+      start (inr q) = end (Memᴰ.cases_cons q)

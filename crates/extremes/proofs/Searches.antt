@@ -6,21 +6,18 @@ use mathlib.Core.Logic.{◌⊎◌, inl, inr}
 use mathlib.Core.List.Memᴰ
 use mathlib.Core.List.{List}
 use native.Mathlib.Omega.{arith}
-use lib.ListN.{take}
 use borrow.Author.Tests.{ltb-false}
 use Rattle.geometry.specs.declared.Rect.{Rect}
 use Rattle.geometry.specs.declared.Spot.{Spot}
 use Rattle.geometry.specs.declared.Sense.{Sense}
 use Rattle.geometry.specs.declared.Sense.TheVariants.{Greatest, Least}
-use Rattle.geometry.specs.Layout.{Disjoint, rects_of, Layer}
-use Rattle.buffers.specs.Written.{Front}
-use Rattle.geometry.specs.Extreme.{better, NoBetter, Bounded, spot_at}
+use Rattle.geometry.specs.Extreme.{better, NoBetter, Bounded}
 use Rattle.geometry.proofs.Extremes.{NoLater, not_better, better_neither, IsBest, Start, start_at, start_in, rows_best_of_all, best_of_fewer, best_same, best_unique, Dispensable}
 use Rattle.geometry.specs.Positions.{window_area, positions, Position}
-use Rattle.extremes.specs.Exact.{extreme, exact_run}
+use Rattle.sweep.specs.declared.sorted.Sorted.{Sorted}
+use Rattle.extremes.specs.Exact.{extreme}
 use Rattle.extremes.specs.Listing.{candidates}
-use Rattle.extremes.specs.Search.{leading_in_rows, tried_row, searched}
-use Rattle.buffers.proofs.Fronts.{front_take}
+use Rattle.extremes.specs.Search.{tried_row, searched}
 use Rattle.extremes.proofs.Candidates.{Better, FirstBest, at_start, candidate_across, candidate_up}
 use Rattle.extremes.proofs.Tried.{candidates_complete, candidates_within}
 use Rattle.extremes.proofs.Reached.{tried_complete, tried_within}
@@ -79,21 +76,21 @@ module _ (s : Sense) (rs : List Rect) (n w : ℕ) (e : Spot) (h : IsBest s (wind
       later y l (inr k) = omega (arith, k.0)
 
 -- so it is among the candidates, and every other position is dispensable
-module _ (s : Sense) (t : List ℕ) (n w : ℕ) where
+module _ (s : Sense) (m : Sorted) (n w : ℕ) where
   abbrev rs : List Rect
-  rs = rects_of t
+  rs = m.rects.now
 
   abbrev Tried : (x y : ℕ) → Type 0
-  Tried = Listed (tried_row s w (n - w) t) (candidates s rs n w)
+  Tried = Listed (tried_row s w (n - w) m) (candidates s (n - w) w rs)
 
-  extreme_listed : Disjoint rs → (e : Spot) → IsBest s (window_area rs w) (Position n w) e → Tried e.x e.y
-  extreme_listed d e h = (
-    tried_complete t n w e.y s e.x (x_in s rs n w e h) (candidate_across s rs w (n - w) e.x e.y d (row_first s rs n w e h)),
-    candidates_complete s rs n w _ e.y (y_in s rs n w e h) (candidate_up s rs w (n - w) e.x e.y d (column_first s rs n w e h)),
+  extreme_listed : (e : Spot) → IsBest s (window_area rs w) (Position n w) e → Tried e.x e.y
+  extreme_listed e h = (
+    tried_complete m n w e.y s e.x (x_in s rs n w e h) (candidate_across s rs w (n - w) e.x e.y m.layer.apart (row_first s rs n w e h)),
+    candidates_complete s (n - w) w _ e.y rs (y_in s rs n w e h) (candidate_up s rs w (n - w) e.x e.y m.layer.apart (column_first s rs n w e h)),
   )
 
-  others : Disjoint rs → (e : Spot) → IsBest s (window_area rs w) (Position n w) e → (x y : ℕ) → Position n w x y → Dispensable s (window_area rs w) Tried x y
-  others d e h x y p = (e.x, e.y, extreme_listed d e h, go (better s (window_area rs w e.x e.y) (window_area rs w x y)) refl)
+  others : (e : Spot) → IsBest s (window_area rs w) (Position n w) e → (x y : ℕ) → Position n w x y → Dispensable s (window_area rs w) Tried x y
+  others e h x y p = (e.x, e.y, extreme_listed e h, go (better s (window_area rs w e.x e.y) (window_area rs w x y)) refl)
     where
       go : (t : Bool) → better s (window_area rs w e.x e.y) (window_area rs w x y) ≡ t →
           (better s (window_area rs w e.x e.y) (window_area rs w x y) ≡ true)
@@ -103,27 +100,14 @@ module _ (s : Sense) (t : List ℕ) (n w : ℕ) where
           let same = better_neither s (window_area rs w e.x e.y) (window_area rs w x y) q (rw h.area_is at (h.none_better x y p)) in
           inr (same, h.first x y p (sym same ∙ sym h.area_is))
 
-  -- for disjoint rectangles the search among the candidates is the extreme over all positions
-  pub searched_is_extreme : Disjoint rs → searched s t n w ≡ extreme s rs n w
+  -- the search among the candidates is the extreme over all positions
+  pub searched_is_extreme : searched s m n w ≡ extreme s rs n w
   unfolding searched
-  searched_is_extreme d =
+  searched_is_extreme =
       best_unique s (window_area rs w) (Position n w) _ _
-      (best_of_fewer s (window_area rs w) Tried (Position n w) _ inside (others d (extreme s rs n w) (extreme_best s rs n w))
-      (leading_best s (window_area rs w) _ _ 0 0 (Memᴰ.head refl, candidates_complete s rs n w (λ r. 0) 0 (omega arith) (at_start refl))))
+      (best_of_fewer s (window_area rs w) Tried (Position n w) _ inside (others (extreme s rs n w) (extreme_best s rs n w))
+      (leading_best s (window_area rs w) _ _ 0 0 (Memᴰ.head refl, candidates_complete s (n - w) w (λ r. 0) 0 rs (omega arith) (at_start refl))))
       (extreme_best s rs n w)
     where
       inside : (x y : ℕ) → Tried x y → Position n w x y
-      inside x y m = position n w x y (tried_within t n w y s x m.0) (candidates_within s rs n w y m.1)
-
--- ---- what the code returns
-
-pub extreme_found : (s : Sense) (t : List ℕ) (n w : ℕ) (before ys : List ℕ) (k : ℕ) (r : Spot) → Layer t →
-    Front before (candidates s (rects_of t) n w) ys k →
-    r ≡ leading_in_rows s (window_area (rects_of t) w) (tried_row s w (n - w) t) (take k ys) (spot_at (window_area (rects_of t) w) 0 0) →
-    r ≡ extreme s (rects_of t) n w
-unfolding searched
-extreme_found s t n w before ys k r d f e = rw (front_take before _ ys k f) at e ∙ searched_is_extreme s t n w d.apart
-
-pub both_found : (rs : List Rect) (n w : ℕ) (g l : Spot) → g ≡ extreme Greatest rs n w → l ≡ extreme Least rs n w →
-    record { greatest = g; least = l } ≡ exact_run rs n w
-both_found rs n w g l p q = λ i. record { greatest = p i; least = q i }
+      inside x y t = position n w x y (tried_within m n w y s x t.0) (candidates_within s (n - w) w rs y t.1)

@@ -5,21 +5,17 @@ use mathlib.Core.Bool.{Bool, true, false}
 use mathlib.Core.Logic.{◌⊎◌, inl, inr}
 use mathlib.Core.List.Memᴰ
 use mathlib.Core.List.{List, [], ◌∷◌, ◌++◌, Memᴰ}
-use native.Mathlib.Nat.{le_trans}
 use native.Mathlib.Omega.{arith}
 use lib.Dec.{leb, eqb}
-use lib.ListN.{get_or, take}
+use Rattle.std.specs.Prelude.{All}
 use borrow.Author.Tests.{le-leb, leb-true, eqb-true}
-use Rattle.geometry.specs.Sizes.{widest, SmallList}
 use Rattle.geometry.specs.declared.Rect.{Rect}
 use Rattle.geometry.specs.declared.Sense.{Sense}
-use Rattle.buffers.specs.Written.{Front}
-use Rattle.extremes.specs.Listing.{side, near_of, far_of, listed, with_position, with_end, with_sides, candidates}
-use Rattle.buffers.proofs.Fronts.{front_take}
+use Rattle.std.specs.List.{fold}
+use Rattle.extremes.specs.Listing.{near_row, far_row, listed, with_position, with_end, with_sides, candidates}
 use Rattle.extremes.proofs.Candidates.{Meets, low_edge, high_edge, further, Candidate, at_start, at_end_lem, at_side}
 
 listed_member : (p : ℕ) (l : List ℕ) → listed p l ≡ true → Memᴰ p l
-unfolding listed
 listed_member p [] e = let z : ◌≡◌ {A = ℕ} 0 1 = cc in absurd (omega arith)
 listed_member p (q ∷ l) e = go (eqb q p) refl (listed_member p l)
   where
@@ -86,47 +82,41 @@ module _ (last w e : ℕ) (l : List ℕ) where
 
 -- ---- the rectangles in turn
 
-module _ (near far last w : ℕ) where
-  sides_kept : (rs : List Rect) (l : List ℕ) {q : ℕ} → Memᴰ q l → Memᴰ q (with_sides near far last w rs l)
-  unfolding with_sides
-  sides_kept [] l m = m
-  sides_kept (r ∷ rs) l m = sides_kept rs _ (end_kept last w (side far r) _ (position_kept last (side near r) l m))
+module _ (s : Sense) (last w : ℕ) where
+  abbrev sides : List ℕ → Rect → List ℕ
+  sides = with_sides s last w
 
-  sides_met : (weight : Rect → ℕ) (rs : List Rect) (l : List ℕ) (p : ℕ) → p ≤ last → Meets (side near) (side far) weight w p rs → Memᴰ p (with_sides near far last w rs l)
-  unfolding with_sides
+  sides_kept : (rs : List Rect) (l : List ℕ) {q : ℕ} → Memᴰ q l → Memᴰ q (fold sides l rs)
+  sides_kept [] l m = m
+  sides_kept (r ∷ rs) l m = sides_kept rs _ (end_kept last w (far_row s r) _ (position_kept last (near_row s r) l m))
+
+  sides_met : (weight : Rect → ℕ) (rs : List Rect) (l : List ℕ) (p : ℕ) → p ≤ last → Meets (near_row s) (far_row s) weight w p rs → Memᴰ p (fold sides l rs)
   sides_met weight [] l p h m = elim m [ ]
   sides_met weight (r ∷ rs) l p h (low_edge e z) =
-      sides_kept rs _ (end_kept last w (side far r) _ (Memᴰ.cast (sym e) (position_added last (side near r) l (omega arith))))
-  sides_met weight (r ∷ rs) l p h (high_edge e z) = sides_kept rs _ (end_added last w (side far r) _ p e h)
+      sides_kept rs _ (end_kept last w (far_row s r) _ (Memᴰ.cast (sym e) (position_added last (near_row s r) l (omega arith))))
+  sides_met weight (r ∷ rs) l p h (high_edge e z) = sides_kept rs _ (end_added last w (far_row s r) _ p e h)
   sides_met weight (r ∷ rs) l p h (further m) = sides_met weight rs _ p h m
 
-  sides_within : (rs : List Rect) (l : List ℕ) → ((q : ℕ) → Memᴰ q l → q ≤ last) → (q : ℕ) → Memᴰ q (with_sides near far last w rs l) → q ≤ last
-  unfolding with_sides
+  sides_within : (rs : List Rect) (l : List ℕ) → ((q : ℕ) → Memᴰ q l → q ≤ last) → (q : ℕ) → Memᴰ q (fold sides l rs) → q ≤ last
   sides_within [] l all = all
-  sides_within (r ∷ rs) l all = sides_within rs _ (end_within last w (side far r) _ (position_within last (side near r) l all))
+  sides_within (r ∷ rs) l all = sides_within rs _ (end_within last w (far_row s r) _ (position_within last (near_row s r) l all))
 
-at_most : (last : ℕ) (l : List ℕ) → ((q : ℕ) → Memᴰ q l → q ≤ last) → (i : ℕ) → get_or l i 0 ≤ last
-at_most last [] all i = omega arith
-at_most last (p ∷ l) all zero = all p (Memᴰ.head refl)
-at_most last (p ∷ l) all (suc i) = at_most last l (λ q m. all q (Memᴰ.tail m)) i
-
-module _ (s : Sense) (rs : List Rect) (n w : ℕ) where
-  pub candidates_complete : (weight : Rect → ℕ) (p : ℕ) → p ≤ n - w → Candidate (side (near_of s 1 3)) (side (far_of s 1 3)) weight w (n - w) p rs →
-      Memᴰ p (candidates s rs n w)
+  pub candidates_complete : (weight : Rect → ℕ) (p : ℕ) (rs : List Rect) → p ≤ last → Candidate (near_row s) (far_row s) weight w last p rs →
+      Memᴰ p (candidates s last w rs)
   unfolding candidates
-  candidates_complete weight p h (at_start e) =
-      sides_kept (near_of s 1 3) (far_of s 1 3) (n - w) w rs _ (position_kept (n - w) (n - w) (0 ∷ []) (Memᴰ.head e))
-  candidates_complete weight p h (at_end_lem e) =
-      sides_kept (near_of s 1 3) (far_of s 1 3) (n - w) w rs _ (Memᴰ.cast e (position_added (n - w) (n - w) (0 ∷ []) (omega arith)))
-  candidates_complete weight p h (at_side m) = sides_met (near_of s 1 3) (far_of s 1 3) (n - w) w weight rs _ p h m
+  candidates_complete weight p rs h (at_start e) = sides_kept rs _ (position_kept last last (0 ∷ []) (Memᴰ.head e))
+  candidates_complete weight p rs h (at_end_lem e) = sides_kept rs _ (Memᴰ.cast e (position_added last last (0 ∷ []) (omega arith)))
+  candidates_complete weight p rs h (at_side m) = sides_met weight rs _ p h m
 
-  pub candidates_within : (p : ℕ) → Memᴰ p (candidates s rs n w) → p ≤ n - w
+  pub candidates_within : (rs : List Rect) (p : ℕ) → Memᴰ p (candidates s last w rs) → p ≤ last
   unfolding candidates
-  candidates_within =
-      sides_within (near_of s 1 3) (far_of s 1 3) (n - w) w rs _
-      (position_within (n - w) (n - w) (0 ∷ []) (λ q m. omega (arith, Memᴰ.eq_of_singleton m)))
+  candidates_within rs = sides_within rs _ (position_within last last (0 ∷ []) (λ q m. omega (arith, Memᴰ.eq_of_singleton m)))
 
-  -- so 64 bits hold a listed position with the window's side added
-  pub candidates_small : (before after : List ℕ) (r : ℕ) → n ≤ widest → Front before (candidates s rs n w) after r → SmallList (take r after)
-  candidates_small before after r h f =
-      rw (front_take before _ after r f) (record { small = λ i. le_trans (at_most (n - w) _ candidates_within i) (omega arith) })
+-- each row that is listed is a position
+pub rows_within : (s : Sense) (last w : ℕ) (rs : List Rect) → All (λ y. y ≤ last) (candidates s last w rs)
+rows_within s last w rs = all (candidates s last w rs) (candidates_within s last w rs)
+  where
+    all : (l : List ℕ) → ((q : ℕ) → Memᴰ q l → q ≤ last) → All (λ y. y ≤ last) l
+    all [] h i d k = absurd (omega arith)
+    all (p ∷ l) h zero d k = h p (Memᴰ.head refl)
+    all (p ∷ l) h (suc i) d k = all l (λ q m. h q (Memᴰ.tail m)) i d (omega arith)

@@ -1,17 +1,15 @@
 -- What the code of the exact run does in place of trying every position. A buyer need not read it: proofs/Searches.antt shows that
 -- `searched` is `extreme`.
-use Rattle.std.specs.Prelude.{ℕ, ◌+◌, ◌-◌, ◌≤◌, Bool, true, false, ◌&&◌, ◌||◌, List, [], ◌∷◌, ◌++◌, leb, ltb, eqb}
+use Rattle.std.specs.Prelude.{ℕ, ◌+◌, ◌-◌, Bool, true, false, ◌&&◌, ◌||◌, List, ◌∷◌, ◌++◌, leb, ltb, eqb, map, filter, fold}
 use Rattle.geometry.specs.declared.Spot.{Spot}
 use Rattle.geometry.specs.declared.Sense.{Sense}
 use Rattle.geometry.specs.Extreme.{better, spot_at}
-use Rattle.geometry.specs.Sizes.{widest}
-use Rattle.geometry.specs.Layout.{rects_of}
-use Rattle.sweep.specs.declared.Side.TheVariants.{Low, High}
-use Rattle.sweep.specs.Strips.{strip_sides, strip_sum, Swept}
-use Rattle.sweep.specs.Cursors.{frame_at}
-use Rattle.extremes.specs.declared.searching.Row.{Row}
-use Rattle.extremes.specs.declared.searching.Tried.{Tried}
 use Rattle.geometry.specs.Positions.{window_area}
+use Rattle.sweep.specs.declared.Side.TheVariants.{Low, High}
+use Rattle.sweep.specs.declared.Upright.{Upright}
+use Rattle.sweep.specs.declared.sorted.Sorted.{Sorted}
+use Rattle.sweep.specs.Strips.{strip_sides}
+use Rattle.extremes.specs.declared.search.Row.{Row}
 use Rattle.extremes.specs.Listing.{near_of, far_of, candidates}
 
 -- ---- the search among listed positions, in any order
@@ -28,18 +26,13 @@ leads s new old = better s new.area old.area || (eqb new.area old.area && earlie
 abbrev pub leading : Sense → Spot → Spot → Spot
 leading s old new = elim (leads s new old) [ true ↦ new | false ↦ old ]
 
--- what stands after each position of a list was taken in turn
-unfoldable pub folded : (ℕ → Spot → Spot) → List ℕ → Spot → Spot
-folded step [] b = b
-folded step (p ∷ l) b = folded step l (step p b)
-
 -- the leading one of the windows at (x, y), x in a list, where b stood before
 abbrev pub leading_in_row : Sense → (ℕ → ℕ → ℕ) → List ℕ → (y : ℕ) → Spot → Spot
-leading_in_row s f xs y b = folded (λ x b. leading s b (spot_at f x y)) xs b
+leading_in_row s f xs y b = fold (λ b x. leading s b (spot_at f x y)) b xs
 
 -- the leading one of the windows at (x, y), y in a list and x in the list of the row y, where b stood before
 abbrev pub leading_in_rows : Sense → (ℕ → ℕ → ℕ) → (xs : ℕ → List ℕ) → (ys : List ℕ) → Spot → Spot
-leading_in_rows s f xs ys b = folded (λ y b. leading_in_row s f (xs y) y b) ys b
+leading_in_rows s f xs ys b = fold (λ b y. leading_in_row s f (xs y) y b) b ys
 
 -- ---- the positions that are tried in a row
 
@@ -48,48 +41,28 @@ abbrev pub is_reached : (shift last side : ℕ) → Bool
 is_reached shift last v = leb shift v && leb (v - shift) last
 
 -- the positions of the windows whose edges meet the sides of a list
-unfoldable pub positions_of : (shift last : ℕ) → List ℕ → List ℕ
-positions_of shift last [] = []
-positions_of shift last (v ∷ []) = []
-positions_of shift last (v ∷ h ∷ s) = elim (is_reached shift last v) [ true ↦ (v - shift) ∷ positions_of shift last s | false ↦ positions_of shift last s ]
+abbrev pub positions_of : (shift last : ℕ) → List Upright → List ℕ
+positions_of shift last sides = map (λ u. u.column - shift) (filter (λ u. is_reached shift last u.column) sides)
 
 -- the positions that are tried in a row: 0, the last one, and where an edge of the window meets a side of its strip
-abbrev pub tried_in : Sense → (w last : ℕ) → (lows highs : List ℕ) → List ℕ
-tried_in s w last lows highs = (0 ∷ last ∷ []) ++ (positions_of 0 last (near_of s lows highs) ++ positions_of w last (far_of s lows highs))
-
-abbrev pub tried_row : Sense → (w last : ℕ) → (rects : List ℕ) → (y : ℕ) → List ℕ
-tried_row s w last rects y = tried_in s w last (strip_sides rects Low y (y + w)) (strip_sides rects High y (y + w))
+abbrev pub tried_row : Sense → (w last : ℕ) → Sorted → (y : ℕ) → List ℕ
+tried_row s w last m y =
+    let lows = strip_sides m.lows.items Low y (y + w) in
+    let highs = strip_sides m.highs.items High y (y + w) in
+    0 ∷ last ∷ (positions_of 0 last (near_of s lows highs) ++ positions_of w last (far_of s lows highs))
 
 -- the search for an extreme: the window at (0, 0), then those at the candidates
-unfoldable pub searched : Sense → (rects : List ℕ) → (n w : ℕ) → Spot
-searched s rects n w =
-    leading_in_rows s (window_area (rects_of rects) w) (tried_row s w (n - w) rects) (candidates s (rects_of rects) n w) (spot_at (window_area (rects_of rects) w) 0 0)
+unfoldable pub searched : Sense → Sorted → (n w : ℕ) → Spot
+searched s m n w =
+    let area = window_area m.rects.now w in
+    leading_in_rows s area (tried_row s w (n - w) m) (candidates s (n - w) w m.rects.now) (spot_at area 0 0)
 
--- ---- one window
+-- ---- one row
 
--- the area of the window at (x, y) in the strip of the row y
-abbrev pub strip_area : (lows highs : List ℕ) → (w x y : ℕ) → ℕ
-strip_area lows highs w x y = strip_sum lows highs x (x + w)
+-- a row's window at x
+abbrev pub window_at : Row → (x : ℕ) → Spot
+window_at row x = spot_at (window_area row.strip.now.sorted.now.rects.now row.search.w) x row.strip.now.y1
 
--- after the window at x was tried
-abbrev pub tried_at : (lows highs : List ℕ) → Row → (x : ℕ) → Spot → Tried
-tried_at lows highs row x best =
-    record { frame = frame_at lows highs x (x + row.w); best = leading row.sense best (spot_at (strip_area lows highs row.w) x row.y) }
-
--- after the window whose edge meets a side was tried
-abbrev pub tried_by : (lows highs : List ℕ) → Row → (side shift : ℕ) → Tried → Tried
-tried_by lows highs row v shift before =
-    elim (is_reached shift row.last v) [ true ↦ tried_at lows highs row (v - shift) before.best | false ↦ before ]
-
--- ---- what the code asks, so that 64 bits and its tables hold what it forms
-
--- a layout of side n, with the order of its sides, and a window of side w that fits it
-pub record Searchable (rects order : List ℕ) (n w : ℕ) : Type 0 where
-  pub swept : Swept rects order
-  pub fits : w ≤ n
-  pub small : n ≤ widest
-
--- the windows of a row end where coordinates are small
-pub record SmallRow (row : Row) : Type 0 where
-  pub right : row.last + row.w ≤ widest
-  pub low : row.y ≤ widest
+-- the leading one of a row's windows at the positions of a list, where b stood before
+abbrev pub leading_along : Row → List ℕ → Spot → Spot
+leading_along row xs b = leading_in_row row.search.sense (window_area row.strip.now.sorted.now.rects.now row.search.w) xs row.strip.now.y1 b

@@ -8,22 +8,19 @@
 #![tactic(auto)]
 
 mod listing;
+mod search;
 mod searching;
 
-ghost use Rattle.std.specs.Prelude.{◌-◌, ◌≡◌};
-ghost use Rattle.geometry.specs.Sizes.{SmallList};
-ghost use Rattle.geometry.specs.Layout.{rects_of, Layer};
+ghost use Rattle.std.specs.Prelude.{◌≤◌, ◌≡◌};
+ghost use Rattle.geometry.specs.Sizes.{widest};
+ghost use Rattle.geometry.specs.Layout.{Layer};
 ghost use Rattle.geometry.specs.Extreme.{spot_at};
 ghost use Rattle.geometry.specs.Positions.{window_area};
 ghost use Rattle.extremes.specs.Exact.{extreme, exact_run};
-ghost use Rattle.extremes.specs.Search.{leading_in_rows, tried_row, Searchable};
 
-use geometry::{MOST_RECTS, Sense, Spot};
-use searching::Row;
-use sweep::STRIP_ROOM;
-
-// Room for the rows that are tried: 0, the last one, and two for each rectangle.
-const CANDIDATES_ROOM: usize = 2 * MOST_RECTS + 2;
+use geometry::{Rect, Sense, Spot};
+use search::{Row, Search};
+use sweep::{Sorted, Strip};
 
 // The exact run's answer: the greatest and the least window.
 #[derive(Clone, Copy)]
@@ -33,9 +30,9 @@ pub struct Extremes {
 }
 
 // The window at the origin, with which every search begins.
-pub fn first_window(rects: &[u64], w: u64) -> Spot
+pub fn first_window(rects: &[Rect], w: u64) -> Spot
     requires { Layer rects.now }
-    ensures { result ≡ spot_at (window_area (rects_of rects.now) w) 0 0 }
+    ensures { result ≡ spot_at (window_area rects.now w) 0 0 }
 {
     let cover = geometry::cover_of(rects, geometry::window_box(w, 0, 0));
     Spot {
@@ -45,46 +42,36 @@ pub fn first_window(rects: &[u64], w: u64) -> Spot
     }
 }
 
-// Tries the windows of every listed row, after the one at (0, 0).
-fn search(rects: &[u64], order: &[usize], n: u64, w: u64, sense: Sense, ys: &[u64]) -> Spot
-    requires searchable { Searchable rects.now order.now n w }
-    requires small_list { SmallList ys.now }
-    ensures { result ≡ leading_in_rows sense (window_area (rects_of rects.now) w) (tried_row sense w (n - w) rects.now) ys.now (spot_at (window_area (rects_of rects.now) w) 0 0) }
+// The extreme over all positions, with its window of least y, then least x.
+fn find_extreme(sorted: &Sorted<'_>, n: u64, w: u64, sense: Sense) -> Spot
+    requires fits { w ≤ n }
+    requires small { n ≤ widest }
+    ensures { result ≡ extreme sense sorted.now.rects.now n w }
 {
     let last = n - w;
-    let mut sides = [0u64; STRIP_ROOM];
-    let mut best = first_window(rects, w);
-    let mut i: usize = 0;
-    while i < ys.len() {
+    let search = Search { sense, w, last };
+    let mut strip = Strip::new(sorted);
+    let mut best = first_window(sorted.rects, w);
+    let rows = listing::list_rows(sorted.rects, search);
+    for &y in rows.as_slice() {
+        strip.set_rows(y, y + w);
         let row = Row {
-            sense,
-            w,
-            last,
-            y: ys[i],
+            search,
+            strip: &strip,
         };
-        best = searching::search_row(rects, order, row, best, &mut sides);
-        i += 1;
+        best = searching::search_row(row, best);
     }
     best
 }
 
-// The extreme over all positions, with its window of least y, then least x.
-fn find_extreme(rects: &[u64], order: &[usize], n: u64, w: u64, sense: Sense) -> Spot
-    requires { Searchable rects.now order.now n w }
-    ensures { result ≡ extreme sense (rects_of rects.now) n w }
-{
-    let mut ys = [0u64; CANDIDATES_ROOM];
-    let count = listing::list_rows(rects, sense, n, w, &mut ys);
-    search(rects, order, n, w, sense, &ys[..count])
-}
-
-// The exact run. The order of the sides is lent, since a job's other runs take it
+// The exact run. The sorted rectangles are lent, since a job's other runs take them
 // too.
-pub fn exact_run(rects: &[u64], order: &[usize], n: u64, w: u64) -> Extremes
-    requires { Searchable rects.now order.now n w }
-    ensures { result ≡ exact_run (rects_of rects.now) n w }
+pub fn exact_run(sorted: &Sorted<'_>, n: u64, w: u64) -> Extremes
+    requires fits { w ≤ n }
+    requires small { n ≤ widest }
+    ensures { result ≡ exact_run sorted.now.rects.now n w }
 {
-    let greatest = find_extreme(rects, order, n, w, Sense::Greatest);
-    let least = find_extreme(rects, order, n, w, Sense::Least);
+    let greatest = find_extreme(sorted, n, w, Sense::Greatest);
+    let least = find_extreme(sorted, n, w, Sense::Least);
     Extremes { greatest, least }
 }

@@ -1,135 +1,70 @@
 // The rows that are tried.
-ghost use Rattle.std.specs.Prelude.{◌+◌, ◌*◌, ◌≤◌, ◌<◌, ◌≡◌, [], ◌∷◌, length, take};
-ghost use Rattle.buffers.specs.Written.{Front};
-ghost use Rattle.geometry.specs.Layout.{rects_of};
-ghost use Rattle.extremes.specs.Listing.{near_of, far_of, listed, with_position, with_end, with_sides, candidates, Listable};
+ghost use Rattle.std.specs.Prelude.{◌+◌, ◌<◌, ◌≤◌, ◌≡◌, length, All};
+ghost use Rattle.arrayvec.specs.ArrayVec.{array_vec_len};
+ghost use Rattle.geometry.specs.Sizes.{most_rects};
+ghost use Rattle.extremes.specs.Listing.{near_of, far_of, with_position, with_end, with_sides, candidates};
 
-use geometry::Sense;
+use crate::search::Search;
+use arrayvec::ArrayVec;
+use geometry::{MOST_RECTS, Rect, Sense};
 
-// Whether a position is in a list.
-fn is_listed(l: &[u64], p: u64) -> bool
-    ensures { result ≡ listed p l.now }
+// Room for 0, the last row, and two for each rectangle.
+const ROWS_ROOM: usize = 2 * MOST_RECTS + 2;
+
+// What the window's low and high edge meet at a first extreme, of a low and a high
+// side or of what stands for them.
+pub(crate) fn near_and_far<S>(sense: Sense, low: S, high: S) -> (S, S)
+    ensures near { result.0 ≡ near_of sense low high }
+    ensures far { result.1 ≡ far_of sense low high }
 {
-    let mut i: usize = 0;
-    while i < l.len() {
-        if l[i] == p {
-            return true;
-        }
-        i += 1;
+    match sense {
+        Sense::Greatest => (low, high),
+        Sense::Least => (high, low),
     }
-    false
 }
 
-// Adds a position to the list at the front of a buffer, unless it is past the
-// last one or stands there already: so no row is searched twice.
-fn add_position(out: &mut [u64], count: usize, p: u64, last: u64) -> usize
-    requires { count < length out.old }
-    ensures { Front out.old (with_position last p (take count out.old)) out.new result }
+// Adds a position, unless it is past the last one or listed already: so no row is
+// searched twice.
+fn add_position(rows: &mut ArrayVec<u64, ROWS_ROOM>, p: u64, last: u64)
+    requires { array_vec_len rows.old < ROWS_ROOM }
+    ensures { rows.new.items ≡ with_position last p rows.old.items }
 {
-    if last < p {
-        return count;
+    if p <= last && !rows.contains(&p) {
+        rows.push(p);
     }
-    if is_listed(&out[..count], p) {
-        return count;
-    }
-    out[count] = p;
-    count + 1
 }
 
 // Adds the position whose window ends at a side.
-fn add_end(out: &mut [u64], count: usize, end: u64, w: u64, last: u64) -> usize
-    requires { count < length out.old }
-    ensures { Front out.old (with_end last w end (take count out.old)) out.new result }
+fn add_end(rows: &mut ArrayVec<u64, ROWS_ROOM>, end: u64, w: u64, last: u64)
+    requires { array_vec_len rows.old < ROWS_ROOM }
+    ensures { rows.new.items ≡ with_end last w end rows.old.items }
 {
-    if end < w {
-        return count;
+    if w <= end {
+        add_position(rows, end - w, last);
     }
-    add_position(out, count, end - w, last)
-}
-
-// Adds the positions at which the window meets a rectangle: its low edge the
-// side `near`, or its high edge the side `far`.
-fn add_rect(out: &mut [u64], count: usize, near: u64, far: u64, w: u64, last: u64) -> usize
-    requires { count + 1 < length out.old }
-    ensures { Front out.old (with_end last w far (with_position last near (take count out.old))) out.new result }
-{
-    let more = add_position(out, count, near, last);
-    add_end(out, more, far, w, last)
-}
-
-// What the rows that are tried are listed by: the sides of a rectangle that the
-// window's lower and upper edges meet, by their places in a table, the window's
-// side, and the last position.
-#[derive(Clone, Copy)]
-struct ListedBy {
-    near: usize,
-    far: usize,
-    w: u64,
-    last: u64,
 }
 
 // Adds the positions at which the window meets a rectangle.
-fn add_sides(rects: &[u64], edges: ListedBy, out: &mut [u64], count: usize) -> usize
-    requires { Listable rects.now edges out.old count }
-    ensures { Front out.old (with_sides edges.near edges.far edges.last edges.w (rects_of rects.now) (take count out.old)) out.new result }
+fn add_sides(rows: &mut ArrayVec<u64, ROWS_ROOM>, r: Rect, search: Search)
+    requires { array_vec_len rows.old + 1 < ROWS_ROOM }
+    ensures { rows.new.items ≡ with_sides search.sense search.last search.w rows.old.items r }
 {
-    let near = edges.near;
-    let far = edges.far;
-    let mut count = count;
-    let mut i: usize = 0;
-    while i + 3 < rects.len() {
-        count = add_rect(
-            out,
-            count,
-            rects[i + near],
-            rects[i + far],
-            edges.w,
-            edges.last,
-        );
-        i += 4;
-    }
-    count
-}
-
-// The side of a rectangle that the window's lower edge meets at a first extreme,
-// by its place in a table.
-fn near_side(sense: Sense) -> usize
-    ensures { result ≡ near_of sense 1 3 }
-{
-    match sense {
-        Sense::Greatest => 1,
-        Sense::Least => 3,
-    }
-}
-
-// And the side that its upper edge meets.
-fn far_side(sense: Sense) -> usize
-    ensures { result ≡ far_of sense 1 3 }
-{
-    match sense {
-        Sense::Greatest => 3,
-        Sense::Least => 1,
-    }
-}
-
-// Lists 0 and the last position.
-fn list_ends(last: u64, out: &mut [u64]) -> usize
-    requires { 1 < length out.old }
-    ensures { Front out.old (with_position last last (0 ∷ [])) out.new result }
-{
-    out[0] = 0;
-    add_position(out, 1, last, last)
+    let (near, far) = near_and_far(search.sense, r.y1, r.y2);
+    add_position(rows, near, search.last);
+    add_end(rows, far, search.w, search.last);
 }
 
 // Lists the rows that are tried.
-pub(crate) fn list_rows(rects: &[u64], sense: Sense, n: u64, w: u64, out: &mut [u64]) -> usize
-    requires w_le_n { w ≤ n }
-    requires rects_len_bound { length rects.now + 4 ≤ 2 * length out.old }
-    ensures { Front out.old (candidates sense (rects_of rects.now) n w) out.new result }
+pub(crate) fn list_rows(rects: &[Rect], search: Search) -> ArrayVec<u64, ROWS_ROOM>
+    requires { length rects.now ≤ most_rects }
+    ensures rows { result.items ≡ candidates search.sense search.last search.w rects.now }
+    ensures within { All (λ y. y ≤ search.last) result.items }
 {
-    let last = n - w;
-    let count = list_ends(last, out);
-    let near = near_side(sense);
-    let far = far_side(sense);
-    add_sides(rects, ListedBy { near, far, w, last }, out, count)
+    let mut rows = ArrayVec::new();
+    rows.push(0);
+    add_position(&mut rows, search.last, search.last);
+    for &r in rects {
+        add_sides(&mut rows, r, search);
+    }
+    rows
 }

@@ -1,37 +1,21 @@
 // The search along a row: its windows are tried in any order, a better one leads,
 // and of two as good the earlier one.
-ghost use Rattle.std.specs.Prelude.{◌+◌, ◌-◌, ◌≤◌, ◌≡◌, [], ◌∷◌, length};
-ghost use Rattle.geometry.specs.Layout.{rects_of};
-ghost use Rattle.sweep.specs.Strips.{strip_room, Sides, Strip, Swept};
-ghost use Rattle.sweep.specs.Cursors.{Behind, ColumnsInOrder};
-ghost use Rattle.geometry.specs.Positions.{window_area};
-ghost use Rattle.extremes.specs.Search.{earlier, leads, leading, leading_in_row, strip_area, tried_at, tried_by, positions_of, tried_in, tried_row, SmallRow};
+ghost use Rattle.std.specs.Prelude.{◌+◌, ◌≤◌, ◌≡◌, [], ◌∷◌};
+ghost use Rattle.std.specs.List.Sorted.{IsNonDecreasingBy};
+ghost use Rattle.extremes.specs.Search.{leads, leading, window_at, leading_along, positions_of, tried_row};
 
+use crate::listing::near_and_far;
+use crate::search::Row;
 use geometry::{Sense, Spot};
-use sweep::Frame;
+use sweep::{Sweep, Upright};
 
-// Whether a window has a smaller y, or the same y and a smaller x.
-fn is_earlier(new: Spot, old: Spot) -> bool
-    ensures { result ≡ earlier new old }
-{
-    if new.y < old.y {
-        return true;
-    }
-    if new.y == old.y { new.x < old.x } else { false }
-}
-
-// Whether a window goes before the one that stands.
+// Whether a window goes before the one that stands: it is better, or as good with a
+// smaller y, or the same y and a smaller x.
 fn goes_first(sense: Sense, new: Spot, old: Spot) -> bool
     ensures { result ≡ leads sense new old }
 {
-    if geometry::is_better(sense, new.area, old.area) {
-        return true;
-    }
-    if new.area == old.area {
-        is_earlier(new, old)
-    } else {
-        false
-    }
+    geometry::is_better(sense, new.area, old.area)
+        || new.area == old.area && (new.y, new.x) < (old.y, old.x)
 }
 
 // What stands after one more window was tried.
@@ -45,140 +29,59 @@ fn leading_of(sense: Sense, old: Spot, new: Spot) -> Spot
     }
 }
 
-// A row of windows: the sense of the extreme, the window's side, the last
-// position, and the row's y.
-#[derive(Clone, Copy)]
-pub(crate) struct Row {
-    pub sense: Sense,
-    pub w: u64,
-    pub last: u64,
-    pub y: u64,
-}
-
-// What stands after a window was tried, and the window as a box in the strip, from
-// which the next one is reached.
-#[derive(Clone, Copy)]
-struct Tried {
-    frame: Frame,
-    best: Spot,
-}
-
-// Moves to the window at x and tries it.
-fn try_window(lows: &[u64], highs: &[u64], row: Row, x: u64, before: Tried) -> Tried
-    requires strip { Strip lows.now highs.now }
-    requires behind { Behind lows.now highs.now before.frame x (x + row.w) }
-    requires columns_in_order { ColumnsInOrder x (x + row.w) }
-    ensures { result ≡ tried_at lows.now highs.now row x before.best }
+// Moves a sweep of the row to the window at x and tries it.
+fn try_window(row: Row<'_>, x: u64, sweep: &mut Sweep<'_>, best: Spot) -> Spot
+    requires along { sweep.old.strip.now ≡ row.strip.now }
+    requires left_later { sweep.old.frame.left ≤ x }
+    requires right_later { sweep.old.frame.right ≤ x + row.search.w }
+    requires within { x ≤ row.search.last }
+    ensures along { sweep.new.strip.now ≡ row.entry.strip.now }
+    ensures left { sweep.new.frame.left ≡ x }
+    ensures right { sweep.new.frame.right ≡ x + row.entry.search.w }
+    ensures best { result ≡ leading row.entry.search.sense best (window_at row.entry x) }
 {
-    let sense = row.sense;
-    let frame = sweep::move_to(lows, highs, before.frame, x, x + row.w);
-    let best = leading_of(
-        sense,
-        before.best,
-        Spot {
-            area: frame.area,
-            x,
-            y: row.y,
-        },
-    );
-    Tried { frame, best }
-}
-
-// Tries the window whose edge meets a side: its low edge for a shift of 0, its
-// high edge for a shift of w.
-fn try_side(lows: &[u64], highs: &[u64], row: Row, side: u64, shift: u64, before: Tried) -> Tried
-    requires strip { Strip lows.now highs.now }
-    requires behind { Behind lows.now highs.now before.frame (side - shift) (side - shift + row.w) }
-    requires small_row { SmallRow row }
-    ensures { result ≡ tried_by lows.now highs.now row side shift before }
-{
-    if side < shift {
-        return before;
-    }
-    let x = side - shift;
-    if row.last < x {
-        return before;
-    }
-    try_window(lows, highs, row, x, before)
-}
-
-// Tries the windows whose edges meet the sides of a list, from left to right.
-fn search_sides(
-    lows: &[u64],
-    highs: &[u64],
-    row: Row,
-    sides: &[u64],
-    shift: u64,
-    best: Spot,
-) -> Spot
-    requires strip { Strip lows.now highs.now }
-    requires sides { Sides sides.now }
-    requires small_row { SmallRow row }
-    ensures { result ≡ leading_in_row row.sense (strip_area lows.now highs.now row.w) (positions_of shift row.last sides.now) row.y best }
-{
-    let mut tried = Tried {
-        frame: sweep::start_frame(),
-        best,
+    sweep.move_to(x, x + row.search.w);
+    let new = Spot {
+        area: sweep.frame.area,
+        x,
+        y: row.strip.y1,
     };
-    let mut i: usize = 0;
-    while i + 1 < sides.len() {
-        tried = try_side(lows, highs, row, sides[i], shift, tried);
-        i += 2;
+    leading_of(row.search.sense, best, new)
+}
+
+// Tries the windows whose edges meet the sides of a list, from left to right: their
+// low edges for a shift of 0, their high edges for a shift of w.
+fn search_sides(row: Row<'_>, sides: &[Upright], shift: u64, best: Spot) -> Spot
+    requires { IsNonDecreasingBy (λ u. u.column) sides.now }
+    ensures { result ≡ leading_along row.entry (positions_of shift row.entry.search.last sides.now) best }
+{
+    let mut sweep = Sweep::start(row.strip);
+    let mut leader = best;
+    for side in sides {
+        if shift <= side.column && side.column - shift <= row.search.last {
+            leader = try_window(row, side.column - shift, &mut sweep, leader);
+        }
     }
-    tried.best
+    leader
 }
 
 // Tries the windows at 0 and at the last position.
-fn search_ends(lows: &[u64], highs: &[u64], row: Row, best: Spot) -> Spot
-    requires strip { Strip lows.now highs.now }
-    requires small_row { SmallRow row }
-    ensures { result ≡ leading_in_row row.sense (strip_area lows.now highs.now row.w) (0 ∷ row.last ∷ []) row.y best }
+fn search_ends(row: Row<'_>, best: Spot) -> Spot
+    ensures { result ≡ leading_along row.entry (0 ∷ row.entry.search.last ∷ []) best }
 {
-    let start = Tried {
-        frame: sweep::start_frame(),
-        best,
-    };
-    let first = try_window(lows, highs, row, 0, start);
-    let last = try_window(lows, highs, row, row.last, first);
-    last.best
+    let mut sweep = Sweep::start(row.strip);
+    let first = try_window(row, 0, &mut sweep, best);
+    try_window(row, row.search.last, &mut sweep, first)
 }
 
-// Tries the windows of a row at every candidate, by the row's strip.
-fn search_strip(lows: &[u64], highs: &[u64], row: Row, best: Spot) -> Spot
-    requires strip { Strip lows.now highs.now }
-    requires small_row { SmallRow row }
-    ensures { result ≡ leading_in_row row.sense (strip_area lows.now highs.now row.w) (tried_in row.sense row.w row.last lows.now highs.now) row.y best }
+// Tries the windows of a row at every candidate.
+pub(crate) fn search_row(row: Row<'_>, best: Spot) -> Spot
+    ensures { let r = row.entry in result ≡ leading_along r (tried_row r.search.sense r.search.w r.search.last r.strip.now.sorted.now r.strip.now.y1) best }
 {
-    let sense = row.sense;
-    let ends = search_ends(lows, highs, row, best);
-    match sense {
-        Sense::Greatest => {
-            let near = search_sides(lows, highs, row, lows, 0, ends);
-            search_sides(lows, highs, row, highs, row.w, near)
-        }
-        Sense::Least => {
-            let near = search_sides(lows, highs, row, highs, 0, ends);
-            search_sides(lows, highs, row, lows, row.w, near)
-        }
-    }
-}
-
-// The same by the rectangles. The strip is what depends on y alone.
-pub(crate) fn search_row(
-    rects: &[u64],
-    order: &[usize],
-    row: Row,
-    best: Spot,
-    sides: &mut [u64],
-) -> Spot
-    requires swept { Swept rects.now order.now }
-    requires small_row { SmallRow row }
-    requires strip_room_in_bounds { strip_room ≤ length sides.old }
-    ensures { result ≡ leading_in_row row.sense (window_area (rects_of rects.now) row.w) (tried_row row.sense row.w row.last rects.now row.y) row.y best }
-{
-    let lengths = sweep::strip(rects, order, row.y, row.y + row.w, sides);
-    let low = lengths.low;
-    let both = lengths.both;
-    let strip = &sides[..];
-    search_strip(&strip[..low], &strip[low..both], row, best)
+    let lows = row.strip.lows.as_slice();
+    let highs = row.strip.highs.as_slice();
+    let (near, far) = near_and_far(row.search.sense, lows, highs);
+    let ends = search_ends(row, best);
+    let by_near = search_sides(row, near, 0, ends);
+    search_sides(row, far, row.search.w, by_near)
 }

@@ -8,6 +8,7 @@ use mathlib.Core.Logic.{◌⊎◌, inl, inr}
 use native.Mathlib.Nat.{mul-le-mul_right, suc-mul, add-mul, mul_comm, mul-sub, min-eq_left, min-eq_right, le_of_lt, div-mul-le_self, lt-div-mul-add, div-lt_iff_lt-mul}
 use native.Mathlib.Omega.{arith}
 use lib.Dec.{T}
+use Rattle.std.specs.Prelude.{Option, None, Some}
 use Rattle.laws.proofs.Tests.{le_or_lt}
 use Rattle.geometry.specs.declared.Rect.{Rect}
 use Rattle.geometry.specs.Count.{box_sum, one_if}
@@ -17,8 +18,7 @@ use Rattle.spacing.specs.declared.Keepout.{Keepout}
 use Rattle.tiles.specs.declared.Plan.{Plan}
 use Rattle.fill.specs.declared.Bound.{Bound}
 use Rattle.fill.specs.declared.Bound.TheVariants.{Over, Under}
-use Rattle.fill.specs.declared.Failing.{Failing}
-use Rattle.fill.specs.declared.Failing.TheVariants.{Nowhere, At}
+use Rattle.fill.specs.declared.Failure.{Failure}
 use Rattle.fill.specs.declared.Verdict.TheVariants.{Safe, Broken}
 use Rattle.spacing.specs.Eligible.{tile}
 use Rattle.geometry.specs.Bounds.{keeps_upper, keeps_lower}
@@ -31,51 +31,58 @@ use Rattle.fill.proofs.Starts.{rows_none, rows_found, First}
 
 -- ---- tests
 
-nonsense : {A : Type 0} → ◌≡◌ {A = ℕ} 0 1 → A
-nonsense e = absurd (omega arith)
-
 -- a start that fails no bound keeps both
-keeps_both : (plan : Plan) (i j for_upper for_lower : ℕ) → failing_at plan i j for_upper for_lower ≡ Nowhere →
+keeps_both : (plan : Plan) (i j for_upper for_lower : ℕ) → failing_at plan i j for_upper for_lower ≡ None →
     T (keeps_upper plan.upper plan.window for_upper) × T (keeps_lower plan.lower plan.window for_lower)
 keeps_both plan i j for_upper for_lower = go (keeps_upper plan.upper plan.window for_upper) (keeps_lower plan.lower plan.window for_lower)
   where
-    go : (a b : Bool) → ◌≡◌ {A = Failing} (elim a [ false ↦ At Over i j | true ↦ elim b [ false ↦ At Under i j | true ↦ Nowhere ] ]) Nowhere → T a × T b
+    go : (a b : Bool) →
+        ◌≡◌ {A = Option Failure} (elim a [
+          | false ↦ Some (record { bound = Over; column = i; row = j })
+          | true ↦ elim b [ false ↦ Some (record { bound = Under; column = i; row = j }) | true ↦ None ]
+        ])
+        None → T a × T b
     go true true e = (tt, tt)
-    go true false e = nonsense (cc)
-    go false b e = nonsense (cc)
+    go true false e = cc
+    go false b e = cc
 
-keeps_bound : (b : Bound) (plan : Plan) (i j total : ℕ) → failing_at plan i j total total ≡ Nowhere → T (keeps b plan total)
+keeps_bound : (b : Bound) (plan : Plan) (i j total : ℕ) → failing_at plan i j total total ≡ None → T (keeps b plan total)
 keeps_bound Over plan i j total e = (keeps_both plan i j total total e).0
 keeps_bound Under plan i j total e = (keeps_both plan i j total total e).1
 
 -- a start that fails is the one named, and breaks the bound named
-pub record Breaks (b : Bound) (i j : ℕ) (plan : Plan) (total x y : ℕ) : Type 0 where
-  pub column : x ≡ i
-  pub row : y ≡ j
-  pub broken : T (keeps b plan total) → ⊥
+pub record Breaks (plan : Plan) (total x y : ℕ) (v : Failure) : Type 0 where
+  pub column : x ≡ v.column
+  pub row : y ≡ v.row
+  pub broken : T (keeps v.bound plan total) → ⊥
 
-failed_one : (b : Bound) (i j : ℕ) (plan : Plan) (x y total : ℕ) → failing_at plan x y total total ≡ At b i j → Breaks b i j plan total x y
-failed_one b i j plan x y total e = go (keeps_upper plan.upper plan.window total) refl (keeps_lower plan.lower plan.window total) refl e
+failed_one : (v : Failure) (plan : Plan) (x y total : ℕ) → failing_at plan x y total total ≡ Some v → Breaks plan total x y v
+failed_one v plan x y total e = go (keeps_upper plan.upper plan.window total) refl (keeps_lower plan.lower plan.window total) refl e
   where
+    failure : Bound → Failure
+    failure b = record { bound = b; column = x; row = y }
+
+    named : (b : Bound) → (T (keeps b plan total) → ⊥) → Some (failure b) ≡ Some v → Breaks plan total x y v
+    named b k e =
+        let same : failure b ≡ v = cc in
+        subst (Breaks plan total x y) same (record { column = refl; row = refl; broken = k })
+
     go : (p : Bool) → keeps_upper plan.upper plan.window total ≡ p → (q : Bool) → keeps_lower plan.lower plan.window total ≡ q →
-        ◌≡◌ {A = Failing} (elim p [ false ↦ At Over x y | true ↦ elim q [ false ↦ At Under x y | true ↦ Nowhere ] ]) (At b i j) → Breaks b i j plan total x y
-    go false s q t e =
-        let over : ◌≡◌ {A = Bound} Over b = cc in
-        record { column = cc; row = cc; broken = subst (λ (c : Bound). T (keeps c plan total) → ⊥) over (λ k. subst (λ (v : Bool). T v) s k) }
-    go true s false t e =
-        let under : ◌≡◌ {A = Bound} Under b = cc in
-        record { column = cc; row = cc; broken = subst (λ (c : Bound). T (keeps c plan total) → ⊥) under (λ k. subst (λ (v : Bool). T v) t k) }
-    go true s true t e = nonsense (cc)
+        ◌≡◌ {A = Option Failure} (elim p [ false ↦ Some (failure Over) | true ↦ elim q [ false ↦ Some (failure Under) | true ↦ None ] ]) (Some v) →
+        Breaks plan total x y v
+    go false s q t e = named Over (λ k. subst T s k) e
+    go true s false t e = named Under (λ k. subst T t k) e
+    go true s true t e = cc
 
-judged_safe : (o m : Failing) → judged o m ≡ Safe → (o ≡ Nowhere) × (m ≡ Nowhere)
-judged_safe Nowhere Nowhere e = (refl, refl)
-judged_safe Nowhere (At b i j) e = nonsense (cc)
-judged_safe (At b i j) m e = nonsense (cc)
+judged_safe : (o m : Option Failure) → judged o m ≡ Safe → (o ≡ None) × (m ≡ None)
+judged_safe None None e = (refl, refl)
+judged_safe None (Some v) e = cc
+judged_safe (Some v) m e = cc
 
-judged_broken : (o m : Failing) (b : Bound) (i j : ℕ) → judged o m ≡ Broken b i j → o ≡ At b i j
-judged_broken Nowhere Nowhere b i j e = nonsense (cc)
-judged_broken Nowhere (At c v z) b i j e = nonsense (cc)
-judged_broken (At c v z) m b i j e = cc
+judged_broken : (o m : Option Failure) (v : Failure) → judged o m ≡ Broken v → o ≡ Some v
+judged_broken None None v e = cc
+judged_broken None (Some w) v e = cc
+judged_broken (Some w) m v e = cc
 
 -- ---- sums
 
@@ -100,13 +107,13 @@ reach side i cut across w x e h k = go (le_or_lt (suc (i + cut)) across)
     go (inl l) = rw (min-eq_left l) (omega (arith, suc-mul (i + cut) side, add-mul i cut side))
     go (inr l) = rw (min-eq_right (le_of_lt l)) k
 
--- a start (i, j) whose sum breaks the bound b, where all starts before it keep both bounds: rows in order, in a row columns in order
-pub record FirstBroken (plan : Plan) (total : ℕ → ℕ → ℕ) (b : Bound) (i j : ℕ) : Type 0 where
-  pub column : i ≤ plan.across - plan.cut
-  pub row : j ≤ plan.across - plan.cut
-  pub breaks : T (keeps b plan (total i j)) → ⊥
-  pub rows_before : (c : Bound) (v z : ℕ) → v ≤ plan.across - plan.cut → z < j → T (keeps c plan (total v z))
-  pub columns_before : (c : Bound) (v : ℕ) → v < i → T (keeps c plan (total v j))
+-- a start whose sum breaks the bound named, where all starts before it keep both bounds: rows in order, in a row columns in order
+pub record FirstBroken (plan : Plan) (total : ℕ → ℕ → ℕ) (v : Failure) : Type 0 where
+  pub column : v.column ≤ plan.across - plan.cut
+  pub row : v.row ≤ plan.across - plan.cut
+  pub breaks : T (keeps v.bound plan (total v.column v.row)) → ⊥
+  pub rows_before : (c : Bound) (i j : ℕ) → i ≤ plan.across - plan.cut → j < v.row → T (keeps c plan (total i j))
+  pub columns_before : (c : Bound) (i : ℕ) → i < v.column → T (keeps c plan (total i v.row))
 
 module _ (ks : List Keepout) (rs : List Rect) (amounts : List ℕ) (plan : Plan) (size : ℕ) (whole : Dissected plan size) (chosen : ℕ → ℕ → Bool)
     (p : Placement ks amounts plan chosen) where
@@ -193,7 +200,7 @@ module _ (ks : List Keepout) (rs : List Rect) (amounts : List ℕ) (plan : Plan)
   unfolding margin_failing
   safe_keeps pos e b x y hx hy = go b
     where
-      nowhere : margin_failing loads plan ≡ Nowhere
+      nowhere : margin_failing loads plan ≡ None
       nowhere = (judged_safe (standard_failing loads plan) (margin_failing loads plan) e).1
 
       for_upper : ℕ
@@ -223,39 +230,39 @@ module _ (ks : List Keepout) (rs : List Rect) (amounts : List ℕ) (plan : Plan)
       tiles_end v = omega (arith, whole.window, add-mul v cut side)
 
   -- after "broken" the named window is one, breaks the named bound, and every window at an earlier start keeps both
-  pub broken_breaks : (b : Bound) (i j : ℕ) → verdict_of rs amounts plan ≡ Broken b i j → FirstBroken plan (λ v z. placed (v * side) (z * side)) b i j
+  pub broken_breaks : (v : Failure) → verdict_of rs amounts plan ≡ Broken v → FirstBroken plan (λ i j. placed (i * side) (j * side)) v
   unfolding standard_failing
-  broken_breaks b i j e =
+  broken_breaks v e =
       record {
         column = small;
         row = low;
-        breaks = λ k. named.broken (subst (λ (s : ℕ). T (keeps b plan s)) here k);
-        rows_before = λ c v z hv hz. on_bound c v z hv (omega (arith, low)) (found.rows_before v z (omega arith) (omega (arith, named.row)));
-        columns_before = λ c v hv.
-            on_bound c v j (omega (arith, small)) low
-            (subst (λ (z : ℕ). failing_at plan v z (total v z) (total v z) ≡ Nowhere) named.row (found.columns_before v (omega (arith, named.column))));
+        breaks = λ k. named.broken (subst (λ (s : ℕ). T (keeps v.bound plan s)) here k);
+        rows_before = λ c i j hi hj. on_bound c i j hi (omega (arith, low)) (found.rows_before i j (omega arith) (omega (arith, named.row)));
+        columns_before = λ c i hi.
+            on_bound c i v.row (omega (arith, small)) low
+            (subst (λ (j : ℕ). failing_at plan i j (total i j) (total i j) ≡ None) named.row (found.columns_before i (omega (arith, named.column))));
       }
     where
-      found : First (λ i j. let s = box_sum (standard_tiles plan i j) loads in failing_at plan i j s s) (starts_across plan) (starts_across plan) b i j
+      found : First (λ i j. let s = box_sum (standard_tiles plan i j) loads in failing_at plan i j s s) (starts_across plan) (starts_across plan) v
       found =
-          rows_found (λ i j. let s = box_sum (standard_tiles plan i j) loads in failing_at plan i j s s) (starts_across plan) (starts_across plan) b i j
-          (judged_broken (standard_failing loads plan) (margin_failing loads plan) b i j e)
+          rows_found (λ i j. let s = box_sum (standard_tiles plan i j) loads in failing_at plan i j s s) (starts_across plan) (starts_across plan) v
+          (judged_broken (standard_failing loads plan) (margin_failing loads plan) v e)
 
       total : ℕ → ℕ → ℕ
-      total v z = box_sum (standard_tiles plan v z) loads
+      total i j = box_sum (standard_tiles plan i j) loads
 
-      named : Breaks b i j plan (total found.column found.row) found.column found.row
-      named = failed_one b i j plan found.column found.row (total found.column found.row) found.here
+      named : Breaks plan (total found.column found.row) found.column found.row v
+      named = failed_one v plan found.column found.row (total found.column found.row) found.here
 
-      small : i ≤ across - cut
+      small : v.column ≤ across - cut
       small = omega (arith, named.column, found.across)
 
-      low : j ≤ across - cut
+      low : v.row ≤ across - cut
       low = omega (arith, named.row, found.down)
 
-      here : placed (i * side) (j * side) ≡ total found.column found.row
-      here = on_grid i j small low ∙ ap₂ total (sym named.column) (sym named.row)
+      here : placed (v.column * side) (v.row * side) ≡ total found.column found.row
+      here = on_grid v.column v.row small low ∙ ap₂ total (sym named.column) (sym named.row)
 
-      on_bound : (c : Bound) (v z : ℕ) → v ≤ across - cut → z ≤ across - cut → failing_at plan v z (total v z) (total v z) ≡ Nowhere →
-          T (keeps c plan (placed (v * side) (z * side)))
-      on_bound c v z hv hz k = subst (λ (s : ℕ). T (keeps c plan s)) (sym (on_grid v z hv hz)) (keeps_bound c plan v z (total v z) k)
+      on_bound : (c : Bound) (i j : ℕ) → i ≤ across - cut → j ≤ across - cut → failing_at plan i j (total i j) (total i j) ≡ None →
+          T (keeps c plan (placed (i * side) (j * side)))
+      on_bound c i j hi hj k = subst (λ (s : ℕ). T (keeps c plan s)) (sym (on_grid i j hi hj)) (keeps_bound c plan i j (total i j) k)

@@ -5,26 +5,19 @@ use mathlib.Core.List.{List}
 use mathlib.Core.Logic.{◌⊎◌, inl, inr}
 use native.Mathlib.Numerals.{add-one}
 use native.Mathlib.Omega.{arith}
-use lib.ListN.{length}
 use Rattle.laws.proofs.Tests.{le_or_lt}
 use Rattle.geometry.specs.Count.{span, box_sum}
-use Rattle.geometry.specs.Layout.{rects_of}
+use Rattle.geometry.specs.declared.Rect.{Rect}
 use Rattle.geometry.proofs.Counting.{same_box, span_empty}
 use Rattle.tiles.specs.declared.Plan.{Plan}
-use Rattle.fill.specs.declared.Bound.{Bound}
-use Rattle.fill.specs.declared.Failing.{Failing}
-use Rattle.fill.specs.declared.Failing.TheVariants.{Nowhere, At}
-use Rattle.fill.specs.declared.Verdict.{Verdict}
-use Rattle.fill.specs.declared.Verdict.TheVariants.{Broken}
 use Rattle.tiles.specs.Tiles.{TileBox, number_at, load}
 use Rattle.fill.specs.Judge.{standard_tiles, bloated_tiles, shrunk_tiles, failing_at, starts_across, standard_failing, margin_failing, judged, verdict_of}
 use Rattle.fill.specs.Windows.{rule_of, tiles_for_upper, tiles_for_lower, failing_by, search_by, IsStart}
-use Rattle.tiles.specs.Sums.{load_of, TilesInLayout, Filled, corner_total, Summed, CornerSums}
-use Rattle.tiles.specs.Sizes.{most_across, Tiled}
+use Rattle.tiles.specs.Sums.{Tabled, load_of, TilesInLayout, corner_total, CornersOf}
 use Rattle.fill.proofs.Starts.{rows_cong}
 use Rattle.fill.proofs.Windows.{upper_inside, lower_inside}
-use Rattle.tiles.proofs.Loads.{table_light, box_load}
-use Rattle.tiles.proofs.Summing.{same_tiles, corner_total_lem}
+use Rattle.tiles.proofs.Loads.{box_load}
+use Rattle.tiles.proofs.Summing.{corner_total_lem}
 
 -- ---- the search by the load of a box, and the verdict's definition
 
@@ -39,36 +32,37 @@ shrunk_sum plan i j f = go (le_or_lt 1 plan.cut)
         ∙ sym (span_empty (suc j) (j + plan.cut) (λ y. span (suc i) (i + plan.cut) (λ x. f x y)) (omega arith))
 
 module _ (loads : ℕ → ℕ → ℕ) (plan : Plan) (total : TileBox → ℕ) (same : (b : TileBox) → TilesInLayout plan.across b → total b ≡ box_sum b loads) where
-  start_same : (margin i j : ℕ) (a b : TileBox) → box_sum (tiles_for_upper (rule_of plan) margin i j) loads ≡ box_sum a loads →
-      box_sum (tiles_for_lower (rule_of plan) margin i j) loads ≡ box_sum b loads → IsStart (rule_of plan) margin i j →
-      failing_by total (rule_of plan) margin i j ≡ failing_at plan i j (box_sum a loads) (box_sum b loads)
+  start_same : (margin i j : ℕ) (a b : TileBox) → box_sum (tiles_for_upper (rule_of plan) plan.across margin i j) loads ≡ box_sum a loads →
+      box_sum (tiles_for_lower (rule_of plan) margin i j) loads ≡ box_sum b loads → IsStart (rule_of plan) plan.across i j →
+      failing_by total (rule_of plan) plan.across margin i j ≡ failing_at plan i j (box_sum a loads) (box_sum b loads)
   start_same margin i j a b e f s =
       ap₂ (failing_at plan i j)
-      (same (tiles_for_upper (rule_of plan) margin i j) (upper_inside (rule_of plan) margin i j _ refl s) ∙ e)
-      (same (tiles_for_lower (rule_of plan) margin i j) (lower_inside (rule_of plan) margin i j _ refl s) ∙ f)
+      (same (tiles_for_upper (rule_of plan) plan.across margin i j) (upper_inside s margin refl) ∙ e)
+      (same (tiles_for_lower (rule_of plan) margin i j) (lower_inside s margin refl) ∙ f)
 
-  pub search_verdict : plan.across ≤ most_across → plan.cut ≤ plan.across →
-      judged (search_by total (rule_of plan) 0) (search_by total (rule_of plan) 1) ≡ judged (standard_failing loads plan) (margin_failing loads plan)
+  pub search_verdict : plan.cut ≤ plan.across →
+      judged (search_by total (rule_of plan) plan.across 0) (search_by total (rule_of plan) plan.across 1)
+      ≡ judged (standard_failing loads plan) (margin_failing loads plan)
   unfolding standard_failing margin_failing
-  search_verdict few h =
+  search_verdict h =
       ap₂ judged
-      (rows_cong (failing_by total (rule_of plan) 0)
+      (rows_cong (failing_by total (rule_of plan) plan.across 0)
       (λ i j. let s = box_sum (standard_tiles plan i j) loads in failing_at plan i j s s) (starts_across plan) (starts_across plan)
       (λ i j p q.
       start_same 0 i j (standard_tiles plan i j) (standard_tiles plan i j) (ap sum_of (same_box refl refl (whole i (omega arith)) (whole j (omega arith))))
-      (ap sum_of (same_box (first i) (first j) refl refl)) (start 0 i j (omega arith) (omega arith) (omega arith))))
-      (rows_cong (failing_by total (rule_of plan) 1)
+      (ap sum_of (same_box (first i) (first j) refl refl)) (start i j (omega arith) (omega arith))))
+      (rows_cong (failing_by total (rule_of plan) plan.across 1)
       (λ i j. failing_at plan i j (box_sum (bloated_tiles plan i j) loads) (box_sum (shrunk_tiles plan i j) loads))
       (starts_across plan) (starts_across plan)
       (λ i j p q.
       start_same 1 i j (bloated_tiles plan i j) (shrunk_tiles plan i j) (ap sum_of (same_box refl refl (more i) (more j))) (shrunk_sum plan i j loads)
-      (start 1 i j (omega arith) (omega arith) (omega arith))))
+      (start i j (omega arith) (omega arith))))
     where
       sum_of : TileBox → ℕ
       sum_of b = box_sum b loads
 
-      start : (margin i j : ℕ) → margin ≤ 1 → i + plan.cut ≤ plan.across → j + plan.cut ≤ plan.across → IsStart (rule_of plan) margin i j
-      start margin i j t p q = record { few = few; thin = t; columns = p; rows = q }
+      start : (i j : ℕ) → i + plan.cut ≤ plan.across → j + plan.cut ≤ plan.across → IsStart (rule_of plan) plan.across i j
+      start i j p q = record { columns = p; rows = q }
 
       first : (i : ℕ) → min (i + 0) (i + plan.cut) ≡ i
       first i = omega arith
@@ -79,33 +73,11 @@ module _ (loads : ℕ → ℕ → ℕ) (plan : Plan) (total : TileBox → ℕ) (
       more : (i : ℕ) → min (i + plan.cut + 1) plan.across ≡ min (suc (i + plan.cut)) plan.across
       more i = ap (λ (k : ℕ). min k plan.across) (add-one (i + plan.cut))
 
--- ---- the two searches together
-
-pub judged_found : (v o m : Failing) (b : Bound) (i j : ℕ) → v ≡ o → v ≡ At b i j → Broken b i j ≡ judged o m
-judged_found v o m b i j e k = ap (λ (q : Failing). judged q m) (sym k ∙ e)
-
-pub judged_rest : (v o p m : Failing) (r : Verdict) → v ≡ o → v ≡ Nowhere → p ≡ m → r ≡ judged Nowhere p → r ≡ judged o m
-judged_rest v o p m r e k f q = q ∙ ap₂ judged (sym k ∙ e) f
-
 -- ---- the verdict by corner sums
 
-module _ (rects amounts : List ℕ) (plan : Plan) (before table sums : List ℕ)
-    (f : Filled (load_of (rects_of rects) amounts plan) before table 0 (plan.across * plan.across)) (t : Tiled rects amounts plan)
-    (full : plan.across * plan.across ≤ length before) (s : Summed table sums plan.across plan.across) where
-  pub plan_sums : CornerSums sums plan.across
-  plan_sums =
-      let w = table_light rects amounts plan before table f t full in
-      record {
-        load = number_at table plan.across;
-        tiles = same_tiles table sums plan.across w.tiles s.size;
-        light = w.light;
-        corners = s.corners;
-      }
-
-  pub sums_verdict : plan.cut ≤ plan.across →
-      judged (search_by (corner_total sums plan.across) (rule_of plan) 0) (search_by (corner_total sums plan.across) (rule_of plan) 1)
-      ≡ verdict_of (rects_of rects) amounts plan
-  unfolding plan_sums
-  sums_verdict h =
-      search_verdict (load (rects_of rects) amounts plan) plan (corner_total sums plan.across)
-      (λ b k. corner_total_lem sums plan.across b plan_sums k ∙ box_load rects amounts plan before table f b k) t.few h
+pub sums_verdict : (rects : List Rect) (amounts : List ℕ) (plan : Plan) {table sums : List ℕ} →
+    Tabled (load_of rects amounts plan) (plan.across * plan.across) table → CornersOf (number_at table plan.across) sums plan.across → plan.cut ≤ plan.across →
+    let total = corner_total sums plan.across in
+    judged (search_by total (rule_of plan) plan.across 0) (search_by total (rule_of plan) plan.across 1) ≡ verdict_of rects amounts plan
+sums_verdict rects amounts plan {sums = sums} t s h =
+    search_verdict (load rects amounts plan) plan (corner_total sums plan.across) (λ b k. corner_total_lem s k ∙ box_load rects amounts plan t b k) h

@@ -6,8 +6,8 @@ use Rattle.tiles.specs.Sizes.{Tiled}
 use Rattle.tiles.specs.declared.Plan.{Plan}
 
 -- a plan that is judged
-pub record Planned (rects amounts : List ℕ) (plan : Plan) : Type 0 where
-  pub tiled : Tiled rects amounts plan
+pub record Planned (amounts : List ℕ) (plan : Plan) : Type 0 where
+  pub tiled : Tiled amounts plan
   pub fits : plan.cut ≤ plan.across
   pub window : plan.window ≤ widest
   pub lower : plan.lower ≤ top_bound

@@ -2,14 +2,13 @@
 #![tactic(auto)]
 
 ghost use Rattle.std.specs.Prelude.{◌≡◌};
-ghost use Rattle.geometry.specs.Layout.{rects_of};
-ghost use Rattle.sweep.specs.Strips.{Swept};
 ghost use Rattle.fill.specs.Judge.{verdict_of};
 ghost use Rattle.fill.specs.Sizes.{Planned};
 
 mod judging;
 
-use tiles::{Plan, TILES_ROOM, set_loads, sum_rows};
+use sweep::Sorted;
+use tiles::{Corners, Plan, tile_loads};
 
 // The bound that a window fails: over says that U fails, under that L does.
 #[derive(Clone, Copy)]
@@ -18,39 +17,33 @@ pub enum Bound {
     Under,
 }
 
-// A failing tile start, by its column and row, and the bound that it fails.
+// A tile start, by its column and row, and the bound that its window fails.
 #[derive(Clone, Copy)]
-pub enum Failing {
-    Nowhere,
-    At(Bound, u64, u64),
+pub struct Failure {
+    pub bound: Bound,
+    pub column: u64,
+    pub row: u64,
 }
 
-// The verdict on a fill. Broken and undecided name the bound that fails first,
-// and the tile column and row of the start where it does.
+// The verdict on a fill. Broken and undecided name the first start that fails.
 #[derive(Clone, Copy)]
 pub enum Verdict {
     Safe,
-    Broken(Bound, u64, u64),
-    Undecided(Bound, u64, u64),
+    Broken(Failure),
+    Undecided(Failure),
 }
 
-// The verdict on a table of amounts, one to a tile, row by row. The order of the
-// sides is lent, as for the exact run.
-pub fn judge(rects: &[u64], order: &[usize], amounts: &[u64], plan: Plan) -> Verdict
-    requires planned { Planned rects.now amounts.now plan }
-    requires swept { Swept rects.now order.now }
-    ensures { result ≡ verdict_of (rects_of rects.now) amounts.now plan }
+// The verdict on a table of amounts, one to a tile, row by row.
+pub fn judge(sorted: &Sorted, amounts: &[u64], plan: Plan) -> Verdict
+    requires { Planned amounts.now plan }
+    ensures { result ≡ verdict_of sorted.now.rects.now amounts.now plan }
 {
-    let mut table = [0u64; TILES_ROOM];
-    set_loads(rects, order, amounts, plan, &mut table);
-    sum_rows(plan.across, &mut table);
-    judging::judge_sums(
-        &table,
-        judging::Rule {
-            across: plan.across,
-            cut: plan.cut,
-            low: plan.lower * plan.window * plan.window,
-            high: plan.upper * plan.window * plan.window,
-        },
-    )
+    let loads = tile_loads(sorted, amounts, plan);
+    let corners = Corners::of(&loads, plan.across);
+    let rule = judging::Rule {
+        cut: plan.cut,
+        low: plan.lower * plan.window * plan.window,
+        high: plan.upper * plan.window * plan.window,
+    };
+    judging::judge_loads(&corners, rule)
 }

@@ -1,17 +1,16 @@
 -- What a good head says in plain numbers.
 use Prim.Native.Nat.{ℕ, zero, suc, ◌*◌, ◌/◌, ◌%◌, ◌≤◌, ◌<◌}
 use mathlib.Core.Path.{◌≡◌, sym, ◌∙◌}
-use mathlib.Core.Bool.{true, ◌&&◌}
+use mathlib.Core.Bool.{true}
 use native.Mathlib.Nat.{div-add-mod', mul_comm, mul-le-mul_right, le_trans, le_of_mul-le-mul_right}
 use native.Mathlib.Omega.{arith}
-use lib.Dec.{leb, ltb, eqb}
-use borrow.Author.Tests.{leb-true, ltb-true, eqb-true}
-use Rattle.laws.proofs.Tests.{both}
+use lib.Dec.{eqb}
+use borrow.Author.Tests.{eqb-true}
 use Rattle.forms.specs.declared.Head.{Head}
 use Rattle.forms.specs.declared.Kind.{Kind}
 use Rattle.forms.specs.Limits.{Limits, unit_limits}
 use Rattle.forms.specs.Shapes.{gap_for}
-use Rattle.forms.specs.Forms.{tile_side, tiles_across, agrees, has_tile, GoodHead}
+use Rattle.forms.specs.Forms.{tile_side, tiles_across, agrees, GoodHead}
 use Rattle.forms.proofs.Spans.{gap_between_lem, Ranges, ranges}
 
 pub record HeadFacts (h : Head) : Type 0 where
@@ -47,27 +46,12 @@ pub record Agreement (m : Limits) (h : Head) : Type 0 where
 pub agreement : (m : Limits) (h : Head) → agrees m h ≡ true → Agreement m h
 agreement m h e =
     record {
-      fits = leb-true h.window h.size a.0;
-      cut_divides = times h.window h.cut b.0;
-      side_divides = times h.size (tile_side h) b.1;
-      few = leb-true (tiles_across h) m.tiles c.0;
-      order = leb-true h.lower h.upper c.1;
+      fits = grind arith;
+      cut_divides = times h.window h.cut (grind arith);
+      side_divides = times h.size (tile_side h) (grind arith);
+      few = grind arith;
+      order = grind arith;
     }
-  where
-    k : ((leb h.window h.size && (eqb (h.window % h.cut) 0 && eqb (h.size % tile_side h) 0)) ≡ true)
-        × ((leb (tiles_across h) m.tiles && leb h.lower h.upper) ≡ true)
-    k =
-        both (leb h.window h.size && (eqb (h.window % h.cut) 0 && eqb (h.size % tile_side h) 0))
-        (leb (tiles_across h) m.tiles && leb h.lower h.upper) e
-
-    a : (leb h.window h.size ≡ true) × ((eqb (h.window % h.cut) 0 && eqb (h.size % tile_side h) 0) ≡ true)
-    a = both (leb h.window h.size) (eqb (h.window % h.cut) 0 && eqb (h.size % tile_side h) 0) k.0
-
-    b : (eqb (h.window % h.cut) 0 ≡ true) × (eqb (h.size % tile_side h) 0 ≡ true)
-    b = both (eqb (h.window % h.cut) 0) (eqb (h.size % tile_side h) 0) a.1
-
-    c : (leb (tiles_across h) m.tiles ≡ true) × (leb h.lower h.upper ≡ true)
-    c = both (leb (tiles_across h) m.tiles) (leb h.lower h.upper) k.1
 
 pub head_facts : (h : Head) → GoodHead h → HeadFacts h
 head_facts h g =
@@ -98,12 +82,6 @@ head_facts h g =
 
     side : 1 ≤ tile_side h
     side = positive (tile_side h) h.cut (omega (arith, a.cut_divides, r.window.least))
-
--- a tile of the layout, by its column and row
-pub has_tile_lem : (h : Head) (i j : ℕ) → has_tile h i j ≡ true → (i < tiles_across h) × (j < tiles_across h)
-has_tile_lem h i j e =
-    let k = both (ltb i (tiles_across h)) (ltb j (tiles_across h)) e in
-    (ltb-true i (tiles_across h) k.0, ltb-true j (tiles_across h) k.1)
 
 -- the far corner of a tile lies in the layout
 pub tile_end : (h : Head) (i : ℕ) → HeadFacts h → i < tiles_across h → suc i * tile_side h ≤ unit_limits.side

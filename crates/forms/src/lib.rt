@@ -37,8 +37,9 @@ pub struct Head {
 }
 
 // Metal that is drawn, or a dummy of an earlier pass.
-#[derive(Clone, Copy)]
+#[derive(Clone, Copy, Default)]
 pub enum Kind {
+    #[default]
     Drawn,
     Dummy,
 }

@@ -1,4 +1,4 @@
-pub mod Boxes
+pub mod Held
 pub mod RegionTables
 pub mod Places
 pub mod NearParts

@@ -1,3 +1,4 @@
 pub mod Free
+pub mod Places
 pub mod Counting
-pub mod Sizes
+pub mod Parts

@@ -4,12 +4,10 @@
 // the edge is met in a later cut.
 ghost use Rattle.std.specs.Prelude.{◌-◌, ◌<◌};
 ghost use Rattle.geometry.specs.Cuts.{FullBox, InBox, Cuts};
-ghost use Rattle.free.specs.Counting.{Countable};
 ghost use Rattle.spacing.specs.Nearness.{Divisible};
 
-use crate::live::listed_region;
+use crate::left::Left;
 use geometry::{Cut, Lines, Rect, nearer_middle, smaller_part};
-use spacing::outline;
 
 // The better of the lines so far and a rectangle's sides.
 fn offer(l: Lines, b: Rect, r: Rect) -> Lines
@@ -24,51 +22,13 @@ fn offer(l: Lines, b: Rect, r: Rect) -> Lines
     }
 }
 
-// The lines nearest the middle among the straight edges of all regions left.
-fn edges(regions: &[u64], places: &[u16], b: Rect) -> Lines
-    requires { Countable regions.now places.now b }
-    ensures { InBox b result }
-{
-    let mut lines = Lines {
-        column: b.x1,
-        row: b.y1,
-    };
-    let mut i = 0;
-    while i < places.len() {
-        let r = listed_region(regions, places, i);
-        lines = offer(lines, b, outline(r));
-        i += 1;
-    }
-    lines
-}
-
-// The same with the sides of the core, where one region is left: they part its
-// corners from its edges.
-fn lines_for(regions: &[u64], places: &[u16], b: Rect) -> Lines
-    requires { Countable regions.now places.now b }
-    ensures { InBox b result }
-{
-    let lines = edges(regions, places, b);
-    if places.len() != 1 {
-        return lines;
-    }
-    let r = listed_region(regions, places, 0);
-    offer(lines, b, r.core)
-}
-
 // A line moved into the middle half of a side.
 fn in_middle_half(low: u64, high: u64, at: u64) -> u64
     requires { (low < at) × (at < high) }
     ensures { (low < result) × (result < high) }
 {
     let quarter = (high - low) / 4;
-    if at < low + quarter {
-        return low + quarter;
-    }
-    if high - quarter < at {
-        return high - quarter;
-    }
-    at
+    at.clamp(low + quarter, high - quarter)
 }
 
 // The middle of the longer side.
@@ -80,9 +40,10 @@ fn middle(b: Rect) -> Cut
     let across = b.x2 - b.x1;
     let up = b.y2 - b.y1;
     if up <= across {
-        return Cut::Column(b.x1 + across / 2);
+        Cut::Column(b.x1 + across / 2)
+    } else {
+        Cut::Row(b.y1 + up / 2)
     }
-    Cut::Row(b.y1 + up / 2)
 }
 
 // The line with the larger smaller part; where there is none, the middle of the longer
@@ -96,21 +57,47 @@ fn choose(b: Rect, l: Lines) -> Cut
     let across = smaller_part(b.x1, b.x2, l.column);
     let up = smaller_part(b.y1, b.y2, l.row);
     if across + up == 0 {
-        return middle(b);
+        middle(b)
+    } else if up <= across {
+        Cut::Column(in_middle_half(b.x1, b.x2, l.column))
+    } else {
+        Cut::Row(in_middle_half(b.y1, b.y2, l.row))
     }
-    if up <= across {
-        return Cut::Column(in_middle_half(b.x1, b.x2, l.column));
-    }
-    Cut::Row(in_middle_half(b.y1, b.y2, l.row))
 }
 
-// Where a box is cut for the regions left. The contract leaves open where, since
-// every cut gives the same count.
-pub(crate) fn cut_for(regions: &[u64], places: &[u16], b: Rect) -> Cut
-    requires countable { Countable regions.now places.now b }
-    requires divisible { Divisible b }
-    ensures { Cuts b result }
-{
-    let lines = lines_for(regions, places, b);
-    choose(b, lines)
+impl<'a> Left<'a> {
+    // The lines nearest the middle among the straight edges of all regions left.
+    fn edges(self) -> Lines
+        ensures { InBox self.entry.bounds result }
+    {
+        let mut lines = Lines {
+            column: self.bounds.x1,
+            row: self.bounds.y1,
+        };
+        for &place in self.places {
+            lines = offer(lines, self.bounds, self.region(place).outline());
+        }
+        lines
+    }
+
+    // The same with the sides of the core, where one region is left: they part its
+    // corners from its edges.
+    fn lines(self) -> Lines
+        ensures { InBox self.entry.bounds result }
+    {
+        let lines = self.edges();
+        match self.places {
+            &[place] => offer(lines, self.bounds, self.region(place).core),
+            _ => lines,
+        }
+    }
+
+    // Where the box is cut. The contract leaves open where, since every cut gives the
+    // same count.
+    pub(crate) fn cut(self) -> Cut
+        requires { Divisible self.bounds }
+        ensures { Cuts self.entry.bounds result }
+    {
+        choose(self.bounds, self.lines())
+    }
 }

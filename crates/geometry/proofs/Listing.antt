@@ -6,13 +6,16 @@ use native.Mathlib.Numerals.{add-one}
 use native.Mathlib.Omega.{arith}
 use lib.ListN.{length, take, set}
 use lib.Seq.{take-suc-set}
+use Rattle.std.specs.List.{All}
+use Rattle.std.proofs.lemmas.List.Elements.{All-append}
 use Rattle.geometry.specs.Places.{Listed}
 
-pub listed_more : (m : ℕ) (t ps : List ℕ) (p : ℕ) → Listed m t ps → p + m < length t → Listed m t (ps ++ (p ∷ []))
-listed_more m t [] p l h zero k = h
-listed_more m t [] p l h (suc i) k = absurd (omega arith)
-listed_more m t (a ∷ ps) p l h zero k = l zero (omega arith)
-listed_more m t (a ∷ ps) p l h (suc i) k = listed_more m t ps p (λ j q. l (suc j) (omega arith)) h i (omega arith)
+pub listed_more : {X : Type 0} (t : List X) (ps : List ℕ) (p : ℕ) → Listed t ps → p < length t → Listed t (ps ++ (p ∷ []))
+listed_more t ps p l h = All-append (λ q. q < length t) ps (p ∷ []) l one
+  where
+    one : All (λ q. q < length t) (p ∷ [])
+    one zero d k = h
+    one (suc i) d k = absurd (omega arith)
 
 -- the first n of a list, with another one behind them
 pub kept_more : (own : List ℕ) (n p : ℕ) → n < length own → take (n + 1) (set own n p) ≡ take n own ++ (p ∷ [])

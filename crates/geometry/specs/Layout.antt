@@ -1,9 +1,9 @@
 -- Document 01, "The job file" and "Areas": rectangles, covered unit squares, the area of a window; and document 02's request 2, the shapes
 -- under it.
-use Rattle.std.specs.Prelude.{ℕ, ◌+◌, ◌*◌, ◌≤◌, Bool, false, ◌&&◌, ◌||◌, List, [], ◌∷◌, T, leb, ltb, length, get_or, set}
+use Rattle.std.specs.Prelude.{ℕ, ◌+◌, ◌≤◌, Bool, false, ◌&&◌, ◌||◌, List, [], ◌∷◌, T, leb, ltb, length, All}
 use Rattle.geometry.specs.declared.Rect.{Rect}
 use Rattle.geometry.specs.declared.Cover.{Cover}
-use Rattle.geometry.specs.Sizes.{widest, rects_room}
+use Rattle.geometry.specs.Sizes.{most_rects, SmallSides}
 use Rattle.geometry.specs.Count.{one_if, box_sum, rect_sum}
 
 -- whether a rectangle covers the unit square (x, y): its low sides belong to it, its high sides do not
@@ -43,21 +43,9 @@ unfoldable pub Disjoint : List Rect → Type 0
 Disjoint [] = Unit {0}
 Disjoint (r ∷ rs) = ((x y : ℕ) → T (holds r x y) → T (covered rs x y) → ⊥) × Disjoint rs
 
--- a table of numbers, four to a rectangle: X1 Y1 X2 Y2
-unfoldable pub rects_of : List ℕ → List Rect
-rects_of [] = []
-rects_of (a ∷ []) = []
-rects_of (a ∷ b ∷ []) = []
-rects_of (a ∷ b ∷ c ∷ []) = []
-rects_of (a ∷ b ∷ c ∷ d ∷ s) = record { x1 = a; y1 = b; x2 = c; y2 = d } ∷ rects_of s
-
--- a table with the four numbers of a rectangle stored behind n rectangles
-abbrev pub with_rect : List ℕ → ℕ → Rect → List ℕ
-with_rect l n r = set (set (set (set l (4 * n) r.x1) (4 * n + 1) r.y1) (4 * n + 2) r.x2) (4 * n + 3) r.y2
-
--- what the code asks of the table of a layer's rectangles: at most 1,024 and no corner past 2^20, for 64 bits, and no shared unit square, so that
+-- what the code asks of the rectangles of a layer: at most 1,024 and no number past 2^20, for 64 bits, and no shared unit square, so that
 -- sums of overlaps count each square once
-pub record Layer (table : List ℕ) : Type 0 where
-  pub few : length table ≤ rects_room
-  pub small : (i : ℕ) → get_or table i 0 ≤ widest
-  pub apart : Disjoint (rects_of table)
+pub record Layer (rs : List Rect) : Type 0 where
+  pub few : length rs ≤ most_rects
+  pub small : All SmallSides rs
+  pub apart : Disjoint rs

@@ -1,12 +1,8 @@
 -- What the code adds up in place of counting unit squares: overlaps. A buyer need not read it, since no contract of the unit's public functions
 -- names it: for disjoint rectangles `overlap_sum` equals `covered_area` (proofs/Overlaps.antt).
-use Rattle.std.specs.Prelude.{ℕ, ◌+◌, ◌-◌, ◌*◌, min, max, List, get_or}
+use Rattle.std.specs.Prelude.{ℕ, ◌-◌, ◌*◌, min, max, List}
 use Rattle.geometry.specs.declared.Rect.{Rect}
 use Rattle.geometry.specs.Count.{rect_sum}
-
--- the rectangle whose numbers stand from place i of a table
-abbrev pub rect_at : List ℕ → ℕ → Rect
-rect_at table i = record { x1 = get_or table i 0; y1 = get_or table (i + 1) 0; x2 = get_or table (i + 2) 0; y2 = get_or table (i + 3) 0 }
 
 -- how many numbers the spans a to b and c to d have in common
 abbrev pub common : (a b c d : ℕ) → ℕ

@@ -10,12 +10,9 @@ widest = 1048576
 abbrev pub largest : ℕ
 largest = widest * widest
 
--- how many rectangles a layer may have, and the numbers of so many in a table, four each
+-- how many rectangles a layer may have
 abbrev pub most_rects : ℕ
 most_rects = 1024
-
-abbrev pub rects_room : ℕ
-rects_room = 4 * most_rects
 
 -- no bound L or U is past 10,000 ten-thousandths
 abbrev pub top_bound : ℕ
@@ -28,4 +25,11 @@ pub record SmallList (l : List ℕ) : Type 0 where
 -- a rectangle that ends where coordinates are small
 pub record SmallRect (r : Rect) : Type 0 where
   pub right : r.x2 ≤ widest
+  pub high : r.y2 ≤ widest
+
+-- a rectangle all of whose sides are small
+pub record SmallSides (r : Rect) : Type 0 where
+  pub left : r.x1 ≤ widest
+  pub right : r.x2 ≤ widest
+  pub low : r.y1 ≤ widest
   pub high : r.y2 ≤ widest

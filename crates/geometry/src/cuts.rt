@@ -2,7 +2,7 @@
 ghost use Rattle.std.specs.Prelude.{◌-◌, ◌≤◌, ◌<◌, min, ◌≡◌};
 ghost use Rattle.geometry.specs.Cuts.{FullBox, Nearer, before, behind, size_of};
 
-use crate::{Cut, Rect, smaller};
+use crate::{Cut, Rect};
 
 // The number of unit squares of a box.
 pub fn box_size(b: Rect) -> u64
@@ -17,7 +17,7 @@ pub fn smaller_part(low: u64, high: u64, at: u64) -> u64
     requires { (low ≤ at) × (at < high) }
     ensures { result ≡ min (at - low) (high - at) }
 {
-    smaller(at - low, high - at)
+    (at - low).min(high - at)
 }
 
 // Of the line so far and another one that nearer the middle; one that does not cross

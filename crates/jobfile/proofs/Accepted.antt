@@ -1,12 +1,11 @@
 -- What a layer above may rely on where a file was accepted.
-use Prim.Native.Nat.{ℕ, ◌+◌, ◌-◌, ◌*◌, ◌/◌, ◌%◌, ◌≤◌, ◌<◌}
-use mathlib.Core.Path.{◌≡◌, refl, subst}
+use Prim.Native.Nat.{ℕ, ◌+◌, ◌*◌, ◌/◌, ◌%◌, ◌≤◌, ◌<◌}
+use mathlib.Core.Path.{◌≡◌, subst}
 use mathlib.Core.List.{List}
 use mathlib.Core.Logic.{◌⊎◌, inl, inr}
 use native.Mathlib.Nat.{le_trans, div-add-mod', mod-lt, div-lt_iff_lt-mul}
 use native.Mathlib.Omega.{arith}
-use lib.ListN.{length, get_or, take, replicate, length-map, get_or-eq_default}
-use lib.Seq.{take_at}
+use lib.ListN.{length, get_or, get_or-eq_default}
 use Rattle.laws.proofs.Tests.{le_or_lt}
 use Rattle.geometry.specs.Layout.{Disjoint, Layer}
 use Rattle.tiles.specs.Tiles.{number_at}
@@ -21,8 +20,8 @@ use Rattle.standing.specs.Filling.{keepouts}
 use Rattle.standing.specs.Faults.{Standing, room_of}
 use Rattle.jobfile.specs.File.{accepted, outcome_of}
 use Rattle.jobfile.specs.Acceptance.{Good, none, next}
-use Rattle.standing.specs.Held.{Sound, table_of, padded}
-use Rattle.standing.proofs.Tables.{table_layer}
+use Rattle.standing.specs.Sound.{Sound}
+use Rattle.standing.proofs.Shapes.{sound_layer}
 use Rattle.standing.proofs.Sound.{sound_after, sound_start}
 use Rattle.jobfile.proofs.Files.{acceptance}
 
@@ -30,7 +29,7 @@ pub record AcceptedFacts (st : Standing) : Type 0 where
   pub head : HeadFacts st.head
   pub few : length st.shapes ≤ unit_limits.shapes
   pub apart : Disjoint (rectangles st.shapes)
-  pub layer : Layer (table_of (rectangles st.shapes))
+  pub layer : Layer (rectangles st.shapes)
   pub sized : length st.amounts ≡ tile_count st.head
   pub fillable : (i j : ℕ) → i < tiles_across st.head → j < tiles_across st.head →
       number_at st.amounts (tiles_across st.head) i j ≤ room_of st i j
@@ -49,7 +48,7 @@ accepted_facts file st e =
       head = head_facts st.head (s.headed headed);
       few = s.few;
       apart = s.apart;
-      layer = table_layer st.head (rectangles st.shapes) s.good s.apart (omega (arith, length-map st.shapes (λ t. t.rect), s.few));
+      layer = sound_layer st s;
       sized = s.sized;
       fillable = s.fillable;
     }
@@ -58,12 +57,7 @@ accepted_facts file st e =
     s = accepted_sound file st e
 
     headed : st.turn ≡ Before → ⊥
-    headed b = let d = ((acceptance unit_limits file).accepted_only_if st e).ended in let z : ◌≡◌ {A = ℕ} 0 1 = cc in omega arith
-
--- ---- the reader's tables, in which zeros stand behind
-
-pub padded_front : (n : ℕ) (s : List ℕ) → take (length s) (padded n s) ≡ s
-padded_front n s = take_at s (replicate (n - length s) 0) (length s) refl
+    headed b = let d = ((acceptance unit_limits file).accepted_only_if st e).ended in cc
 
 -- ---- an amount is at most its tile's area
 

@@ -27,7 +27,7 @@ use Rattle.jobfile.specs.File.{Outcome, refused, accepted, at_end, after_last, r
 use Rattle.jobfile.specs.Acceptance.{forms_text, Good, none, next, LineFault, spelled, unspelled, FirstFault, faulty, unfed, unended, AcceptedFile, RefusedFile, long, lines, Acceptance}
 use Rattle.jobfile.specs.Lined.{first_line, first_fault}
 use Rattle.standing.proofs.Faultless.{no_fault}
-use Rattle.jobfile.proofs.Lines.{good_next, bad_next, read_last, good_fed, fed_fault, unfed_fault, line_good, line_bad, too_long, short_enough}
+use Rattle.jobfile.proofs.Lines.{unended_end, good_next, bad_next, read_last, good_fed, fed_fault, unfed_fault, line_good, line_bad, too_long, short_enough}
 
 -- ---- a good form is a good line
 
@@ -95,13 +95,6 @@ pass {m = m} (next {st = x} {st' = y} {f = f} {fs = fs} short e g) k rest =
     same : form_of m (spelling_of f) ≡ f
     same = good_read m x f short e
 
--- the end of a text where no (end) was read
-at_end_lem : (t : Turn) (k : ℕ) (st : Standing) → (t ≡ Done → ⊥) → at_end t k st ≡ refused 12 k
-at_end_lem Before k st n = refl
-at_end_lem Shapes k st n = refl
-at_end_lem Fills k st n = refl
-at_end_lem Done k st n = absurd (n refl)
-
 -- the pieces of a text without a line feed
 pieces_feedless : (s : List ℕ) → feedless s ≡ true → pieces s ≡ s ∷ []
 unfolding pieces
@@ -136,7 +129,7 @@ first_fault_lem {m = m} {k = k} {s = s} (faulty fs {st' = y} {number = number} l
     same = line_fault_is m y line number fault
 first_fault_lem {m = m} {k = k} {s = s} (unfed fs {st' = y} line e f h g) =
     left k s line e g ∙ ap (read_lines m y (length fs + k)) (pieces_feedless line f) ∙ read_last m y (length fs + k) line ∙ after_some y (length fs + k) line h
-first_fault_lem {k = k} {s = s} (unended fs {st' = y} e g n) = forms_passed k s e g ∙ at_end_lem y.turn (length fs + k) y n
+first_fault_lem {k = k} {s = s} (unended fs {st' = y} e g n) = forms_passed k s e g ∙ unended_end y.turn (length fs + k) y n
 
 -- ---- every text comes to something
 

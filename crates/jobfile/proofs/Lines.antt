@@ -2,57 +2,27 @@
 use Prim.Native.Nat.{ℕ, suc, ◌+◌, ◌-◌, ◌≤◌, ◌<◌}
 use mathlib.Core.Path.{◌≡◌, refl, sym, ap, ap₂, ◌∙◌, subst}
 use mathlib.Core.Bool.{Bool, true, false}
-use mathlib.Core.List.{List, [], ◌∷◌, ◌++◌}
+use mathlib.Core.List.{List, [], ◌∷◌}
 use native.Mathlib.Numerals.{add-one}
 use native.Mathlib.Omega.{arith}
-use lib.Dec.{ltb, eqb, lit≤}
-use lib.ListN.{length, take, drop, length-drop, take-append-drop}
-use lib.Seq.{length-take-le, take_all}
+use lib.Dec.{ltb, eqb}
+use lib.ListN.{length, take, drop, length-drop}
+use lib.Seq.{take_all}
 use borrow.Author.Tests.{lt-ltb, le-ltb, le-leb, lt-leb, ltb-true, ltb-false, eq-eqb, ne_eqb, eqb-true, eqb-false}
-use Rattle.geometry.specs.Layout.{rects_of}
 use Rattle.spelling.specs.Text.{in_front, pieces}
 use Rattle.spelling.specs.Scanning.{line_length}
 use Rattle.spelling.proofs.Lines.{pieces_line, pieces_last}
-use Rattle.free.proofs.RegionTables.{regions_none}
-use Rattle.forms.specs.declared.Head.{Head}
 use Rattle.forms.specs.Limits.{Limits, unit_limits}
-use Rattle.forms.specs.Forms.{tile_count}
 use Rattle.lines.specs.Reading.{form_of}
-use Rattle.standing.specs.declared.State.{State}
-use Rattle.jobfile.specs.declared.reader.Line.{Line}
-use Rattle.jobfile.specs.declared.Refusal.{Refusal}
 use Rattle.standing.specs.declared.fault.Fault.{Fault}
-use Rattle.standing.specs.declared.fault.Fault.TheVariants.{TooLong, NotSpelled, OutOfRange, OutOfTurn, HeadDisagrees, OutsideLayout, NoSuchTile, TooManyShapes, SharedSquare, FilledTwice, NoRoom, NoEnd, ShortBuffer}
 use Rattle.standing.specs.Fault.{fault_number}
-use Rattle.std.specs.Prelude.{None, Ok, Err}
-use Rattle.jobfile.specs.declared.Job.{Job}
+use Rattle.standing.proofs.Faultless.{numbered}
+use Rattle.std.specs.Prelude.{Ok, Err}
 use Rattle.standing.specs.declared.Turn.{Turn}
 use Rattle.standing.specs.declared.Turn.TheVariants.{Before, Shapes, Fills, Done}
-use Rattle.standing.specs.Faults.{Standing, before_head, no_head, line_fault, stands_after}
+use Rattle.standing.specs.Faults.{Standing, before_head, line_fault, stands_after}
 use Rattle.jobfile.specs.File.{Outcome, refused, at_end, after_last, read_lines, outcome_of}
-use Rattle.standing.specs.Held.{amounts_room, shapes_by, shapes_in, standing, table_of, padded, AmountsKept, Held}
-use Rattle.jobfile.specs.Lined.{Cleared, first_line, first_fault, LineRead, end_fault, EndsWith, refused_as, IsJob}
-use Rattle.standing.proofs.Tables.{zeros}
-use Rattle.standing.proofs.Sound.{sound_start}
-
--- no fault has the number 0
-pub fault_some : (f : Fault) → fault_number f ≡ 0 → ⊥
-fault_some f e = omega (arith, numbered f)
-  where
-    numbered : (f : Fault) → 1 ≤ fault_number f
-    numbered TooLong = lit≤ tt
-    numbered NotSpelled = lit≤ tt
-    numbered OutOfRange = lit≤ tt
-    numbered OutOfTurn = lit≤ tt
-    numbered HeadDisagrees = lit≤ tt
-    numbered OutsideLayout = lit≤ tt
-    numbered NoSuchTile = lit≤ tt
-    numbered TooManyShapes = lit≤ tt
-    numbered SharedSquare = lit≤ tt
-    numbered FilledTwice = lit≤ tt
-    numbered NoRoom = lit≤ tt
-    numbered NoEnd = lit≤ tt
-    numbered ShortBuffer = lit≤ tt
+use Rattle.jobfile.specs.Lined.{first_line, first_fault, LineRead}
 
 -- ---- one line more
 
@@ -135,100 +105,55 @@ module _ (m : Limits) (st : Standing) (k : ℕ) (rest : List ℕ) where
 
 -- ---- what was read, and what is left of the file
 
-pub record ReadSoFar (file : List ℕ) (s : State) (shapes regions amounts : List ℕ) (line : ℕ) (rest : List ℕ) : Type 0 where
-  pub held : Held s shapes regions amounts
+pub record ReadSoFar (file : List ℕ) (st : Standing) (line : ℕ) (rest : List ℕ) : Type 0 where
   -- there are no more lines than bytes
   pub lines : line + length rest ≤ length file + 1
-  pub whole : read_lines unit_limits before_head 1 (pieces file) ≡ read_lines unit_limits (standing s shapes amounts) line (pieces rest)
+  pub whole : read_lines unit_limits before_head 1 (pieces file) ≡ read_lines unit_limits st line (pieces rest)
 
-pub read_so_far_start : (file shapes regions amounts : List ℕ) (h : Head) → Cleared shapes regions amounts → h ≡ no_head →
-    ReadSoFar file (record { turn = Before; head = h; count = 0; near = None }) shapes regions amounts 1 file
-unfolding rects_of shapes_by table_of
-read_so_far_start file shapes regions amounts h c eh =
-    rw (c.no_shapes, c.no_regions, c.no_amounts, eh)
-    (record {
-      held = record {
-        shaped = record { table = refl; counted = refl; few = lit≤ tt; room = refl; kept = regions_none };
-        filled = record { room = refl; tiles = lit≤ tt; beyond = refl };
-        sound = sound_start;
-        near = tt;
-      };
-      lines = omega arith;
-      whole = refl;
-    })
-
-module _ (file : List ℕ) (s : State) (shapes regions amounts : List ℕ) (line : ℕ) (rest : List ℕ) (k : ReadSoFar file s shapes regions amounts line rest)
-    (shapes' regions' amounts' : List ℕ) where
-  st : Standing
-  st = standing s shapes amounts
-
+module _ (file : List ℕ) (st : Standing) (line : ℕ) (rest : List ℕ) (k : ReadSoFar file st line rest) (st' : Standing) where
   -- one good line more
-  pub read_so_far_next : (r : Line) → LineRead rest s shapes regions amounts (Ok r) shapes' regions' amounts' →
-      ReadSoFar file r.state shapes' regions' amounts' (line + 1) (drop r.used rest)
-  read_so_far_next r read =
+  pub read_so_far_next : (n : ℕ) → LineRead rest st (Ok n) st' → ReadSoFar file st' (line + 1) (drop n rest)
+  read_so_far_next n read =
       record {
-        held = read.good.held;
-        lines = omega (arith, feed, read.used, length-drop r.used rest, k.lines);
+        lines = omega (arith, feed, read.used, length-drop n rest, k.lines);
         whole =
-            k.whole ∙ line_good unit_limits (standing s shapes amounts) line rest (sym read.fault)
-            ∙ ap₂ (λ (x : Standing) (n : ℕ). read_lines unit_limits x (suc line) (pieces (drop n rest))) (sym read.good.stands) (sym (read.used ∙ add-one (line_length rest)))
-            ∙ ap (λ (n : ℕ). read_lines unit_limits (standing r.state shapes' amounts') n (pieces (drop r.used rest))) (sym (add-one line));
+            k.whole ∙ line_good unit_limits st line rest (sym read.fault)
+            ∙ ap₂ (λ (x : Standing) (n : ℕ). read_lines unit_limits x (suc line) (pieces (drop n rest))) (sym read.good) (sym (read.used ∙ add-one (line_length rest)))
+            ∙ ap (λ (i : ℕ). read_lines unit_limits st' i (pieces (drop n rest))) (sym (add-one line));
       }
     where
       feed : line_length rest < length rest
-      feed = good_fed unit_limits (standing s shapes amounts) line rest (sym read.fault)
+      feed = good_fed unit_limits st line rest (sym read.fault)
 
   -- a faulty line ends the reading
-  pub read_so_far_bad : (f : Fault) → eqb (length rest) 0 ≡ false → LineRead rest s shapes regions amounts (Err f) shapes' regions' amounts' →
-      read_lines unit_limits before_head 1 (pieces file) ≡ refused (fault_number f) line
+  pub read_so_far_bad : (f : Fault) → eqb (length rest) 0 ≡ false → LineRead rest st (Err f) st' →
+      refused (fault_number f) line ≡ read_lines unit_limits before_head 1 (pieces file)
   read_so_far_bad f h read =
-      k.whole
-      ∙ line_bad unit_limits (standing s shapes amounts) line rest (let n = eqb-false (length rest) 0 h in omega arith) (λ z. fault_some f (read.fault ∙ z))
-      ∙ ap (λ (m : ℕ). refused m line) (sym read.fault)
+      ap (λ (m : ℕ). refused m line) read.fault
+      ∙ sym (line_bad unit_limits st line rest (let n = eqb-false (length rest) 0 h in omega arith) (λ z. omega (arith, numbered f, read.fault, z)))
+      ∙ sym k.whole
+
+-- the end of the file
+pub read_so_far_end : (file : List ℕ) (st : Standing) (line : ℕ) (rest : List ℕ) → ReadSoFar file st line rest → eqb (length rest) 0 ≡ true →
+    at_end st.turn line st ≡ read_lines unit_limits before_head 1 (pieces file)
+unfolding pieces read_lines
+read_so_far_end file st line rest k none_left =
+    sym (k.whole ∙ ap (λ (r : List ℕ). read_lines unit_limits st line (pieces r)) (empty rest (eqb-true (length rest) 0 none_left)))
+  where
+    empty : (l : List ℕ) → length l ≡ 0 → l ≡ []
+    empty [] h = refl
+    empty (a ∷ l) h = absurd (omega arith)
+
+-- where no (end) was read
+pub unended_end : (t : Turn) (k : ℕ) (st : Standing) → (t ≡ Done → ⊥) → at_end t k st ≡ refused 12 k
+unended_end Before k st n = refl
+unended_end Shapes k st n = refl
+unended_end Fills k st n = refl
+unended_end Done k st n = absurd (n refl)
 
 -- the part of a list from a place to its end
 pub from_place : (l : List ℕ) (n : ℕ) → take (length l - n) (drop n l) ≡ drop n l
 from_place l n = take_all (length l - n) (drop n l) (omega (arith, length-drop n l))
-
--- ---- the tables at the end
-
--- a table with zeros behind it is that table filled up
-filled : (n k : ℕ) (l t : List ℕ) → take k l ≡ t → length l ≡ n → k ≤ n → drop k l ≡ zeros (n - k) → l ≡ padded n t
-filled n k l t e w h d =
-    sym (take-append-drop k l) ∙ ap₂ ◌++◌ e (d ∙ ap (λ (m : ℕ). zeros (n - m)) (sym (ap length (sym e) ∙ length-take-le k l (omega (arith, w)))))
-
-held_amounts : (h : Head) (amounts : List ℕ) → AmountsKept h amounts → amounts ≡ padded amounts_room (take (tile_count h) amounts)
-held_amounts h amounts k = filled amounts_room (tile_count h) amounts (take (tile_count h) amounts) refl k.room k.tiles k.beyond
-
-module _ (file : List ℕ) (s : State) (shapes regions amounts : List ℕ) (line : ℕ) (rest : List ℕ) (k : ReadSoFar file s shapes regions amounts line rest)
-    (none_left : eqb (length rest) 0 ≡ true) where
-  at_last : (t : Turn) → s.turn ≡ t → read_lines unit_limits before_head 1 (pieces file) ≡ at_end t line (standing s shapes amounts)
-  unfolding pieces read_lines
-  at_last t e = k.whole ∙ ap (λ (r : List ℕ). read_lines unit_limits (standing s shapes amounts) line (pieces r)) (empty rest (eqb-true (length rest) 0 none_left)) ∙ ap (λ (t : Turn). at_end t line (standing s shapes amounts)) e
-    where
-      empty : (l : List ℕ) → length l ≡ 0 → l ≡ []
-      empty [] h = refl
-      empty (a ∷ l) h = absurd (omega arith)
-
-  -- the end of the file, after an (end)
-  pub read_so_far_end : end_fault s.turn ≡ 0 → EndsWith (read_lines unit_limits before_head 1 (pieces file)) shapes regions amounts s
-  read_so_far_end e = go s.turn refl e
-    where
-      go : (t : Turn) → s.turn ≡ t → end_fault t ≡ 0 → EndsWith (read_lines unit_limits before_head 1 (pieces file)) shapes regions amounts s
-      go Before q e = absurd (omega arith)
-      go Shapes q e = absurd (omega arith)
-      go Fills q e = absurd (omega arith)
-      go Done q e = record { held = k.held; stands = at_last Done q }
-
-  -- and without
-  pub read_so_far_unended : (f : Fault) → fault_number f ≡ end_fault s.turn → read_lines unit_limits before_head 1 (pieces file) ≡ refused (fault_number f) line
-  read_so_far_unended f e = go s.turn refl e
-    where
-      go : (t : Turn) → s.turn ≡ t → fault_number f ≡ end_fault t → read_lines unit_limits before_head 1 (pieces file) ≡ refused (fault_number f) line
-      go Before q e = rw e (at_last Before q)
-      go Shapes q e = rw e (at_last Shapes q)
-      go Fills q e = rw e (at_last Fills q)
-      go Done q e = absurd (fault_some f e)
 
 -- ---- the whole file
 
@@ -239,20 +164,3 @@ too_long m file h = rw (lt-leb (length file) m.bytes h, outcome_of)
 pub short_enough : (m : Limits) (file : List ℕ) → length file ≤ m.bytes → read_lines m before_head 1 (pieces file) ≡ outcome_of m file
 unfolding outcome_of
 short_enough m file h = rw (le-leb (length file) m.bytes h, outcome_of)
-
--- the job of what was read to its end
-pub whole_job : (file : List ℕ) (s : State) (shapes regions amounts : List ℕ) → length file ≤ unit_limits.bytes →
-    EndsWith (read_lines unit_limits before_head 1 (pieces file)) shapes regions amounts s →
-    IsJob (outcome_of unit_limits file) (record { head = s.head; count = s.count; shapes = shapes; amounts = amounts })
-whole_job file s shapes regions amounts h k =
-    subst (λ (o : Outcome). IsJob o (record { head = s.head; count = s.count; shapes = shapes; amounts = amounts }))
-    (sym k.stands ∙ short_enough unit_limits file h)
-    (ap (λ (n : ℕ). job n shapes amounts) (sym k.held.shaped.counted)
-    ∙ ap₂ (job (length (shapes_in s.count shapes))) k.held.shaped.table (held_amounts s.head amounts k.held.filled))
-  where
-    job : ℕ → List ℕ → List ℕ → Job
-    job n l a = record { head = s.head; count = n; shapes = l; amounts = a }
-
-pub whole_refused : (file : List ℕ) (e : Refusal) → length file ≤ unit_limits.bytes → read_lines unit_limits before_head 1 (pieces file) ≡ refused_as e →
-    outcome_of unit_limits file ≡ refused_as e
-whole_refused file e h k = sym (short_enough unit_limits file h) ∙ k

@@ -3,33 +3,24 @@
 use Prim.Native.Nat.{ℕ, ◌≤◌}
 use mathlib.Core.Path.{◌≡◌}
 use mathlib.Core.List.{List}
-use native.Mathlib.Nat.{le_trans}
-use lib.Dec.{leb, eqb, lit<}
-use borrow.Author.Tests.{le-leb, leb-true}
+use native.Mathlib.Omega.{arith}
 use Rattle.spacing.specs.Eligible.{tile}
 use Rattle.spacing.proofs.Rounded.{no_area_falls}
-use Rattle.tiles.specs.Tiles.{number_at}
 use Rattle.forms.specs.declared.Head.{Head}
 use Rattle.forms.specs.declared.Form.{Form}
 use Rattle.forms.specs.declared.Form.TheVariants.{Unknown, Heading, Metal, Fill, End}
 use Rattle.forms.specs.Limits.{Limits}
-use Rattle.forms.specs.Forms.{known, in_range, tile_side, tiles_across, has_tile}
+use Rattle.forms.specs.Forms.{tile_side}
 use Rattle.standing.specs.Filling.{keepouts}
-use Rattle.standing.specs.Faults.{Standing, in_turn, check, fill_fault, own_fault, line_fault, room_of}
+use Rattle.standing.specs.Faults.{Standing, fill_fault, own_fault, line_fault, room_of}
 use Rattle.jobfile.specs.Acceptance.{Good, none, next}
 use Rattle.jobfile.specs.SquareCorners.{room_before, own_fault_before, fault_before, GoodBefore, StillAccepted}
-use Rattle.standing.proofs.Faultless.{check_passes, faultless}
 use Rattle.jobfile.proofs.Files.{acceptance}
 
 -- a fill that is good for a room is good for a larger one
 fill_still : (h : Head) (amounts : List ℕ) (room room' i j p : ℕ) → room ≤ room' → fill_fault h amounts room i j p ≡ 0 → fill_fault h amounts room' i j p ≡ 0
 unfolding fill_fault
-fill_still h amounts room room' i j p more e =
-    let unfilled = eqb (number_at amounts (tiles_across h) i j) 0 in
-    let a = check_passes (has_tile h i j) 7 (check unfilled 10 (check (leb p room) 11 0)) (lit< tt) e in
-    let b = check_passes unfilled 10 (check (leb p room) 11 0) (lit< tt) a.1 in
-    let c = check_passes (leb p room) 11 0 (lit< tt) b.1 in
-    rw (a.0, b.0, le-leb p room' (le_trans (leb-true p room c.0) more))
+fill_still h amounts room room' i j p more e = grind arith
 
 module _ (limits : Limits) where
   own : (st : Standing) (f : Form) → own_fault_before limits st f ≡ 0 → own_fault limits st f ≡ 0
@@ -42,11 +33,8 @@ module _ (limits : Limits) where
   own st End e = e
 
   fault : (st : Standing) (f : Form) → fault_before limits st f ≡ 0 → line_fault limits st f ≡ 0
-  fault st f e =
-      let a = check_passes (known f) 2 (check (in_range limits f) 3 (check (in_turn st.turn f) 4 (own_fault_before limits st f))) (lit< tt) e in
-      let b = check_passes (in_range limits f) 3 (check (in_turn st.turn f) 4 (own_fault_before limits st f)) (lit< tt) a.1 in
-      let c = check_passes (in_turn st.turn f) 4 (own_fault_before limits st f) (lit< tt) b.1 in
-      faultless limits st f (record { spelled = a.0; range = b.0; turn = c.0; own = own st f c.1 })
+  unfolding line_fault
+  fault st f e = let k : own_fault limits st f ≡ 0 = own st f (grind arith) in grind arith
 
   still_good : {st st' : Standing} {fs : List Form} → GoodBefore limits st fs st' → Good limits st fs st'
   still_good GoodBefore.none = none

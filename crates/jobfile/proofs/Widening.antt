@@ -1,28 +1,24 @@
 -- Where limits are widened, every file that was accepted still is, with the same standing: its forms stay good.
-use Prim.Native.Nat.{ℕ, ◌-◌, ◌%◌, ◌≤◌}
+use Prim.Native.Nat.{ℕ, ◌≤◌}
 use mathlib.Core.Path.{◌≡◌}
-use mathlib.Core.Bool.{true, ◌&&◌}
+use mathlib.Core.Bool.{true}
 use mathlib.Core.List.{List, [], ◌∷◌}
 use native.Mathlib.Nat.{le_trans}
 use native.Mathlib.Omega.{arith}
-use lib.Dec.{leb, eqb, lit<}
-use borrow.Author.Tests.{le-leb, leb-true}
+use borrow.Author.Tests.{le-leb}
 use Rattle.spelling.specs.Decimal.{EachShort}
-use Rattle.laws.proofs.Tests.{both}
 use Rattle.geometry.specs.declared.Rect.{Rect}
 use Rattle.forms.specs.declared.Head.{Head}
 use Rattle.forms.specs.declared.Form.{Form}
 use Rattle.forms.specs.declared.Form.TheVariants.{Unknown, Heading, Metal, Fill, End}
 use Rattle.forms.specs.declared.Gap.{Gap}
-use Rattle.forms.specs.declared.Gap.TheVariants.{Both, Each}
-use Rattle.forms.specs.declared.Kind.TheVariants.{Drawn, Dummy}
 use Rattle.forms.specs.Limits.{Limits, Widened}
-use Rattle.forms.specs.Forms.{in_span, gap_in_range, head_in_range, rect_in_range, fill_in_range, in_range, tile_side, tiles_across, agrees}
+use Rattle.forms.specs.Forms.{in_span, gap_in_range, head_in_range, rect_in_range, fill_in_range, in_range, agrees}
 use Rattle.lines.specs.Spellings.{numbers_of}
-use Rattle.forms.proofs.Spans.{Between, between, gap_between_lem, ranges, corners}
+use Rattle.forms.proofs.Spans.{Between, ranges}
 use Rattle.standing.specs.Faults.{Standing, line_fault, own_fault}
 use Rattle.jobfile.specs.Acceptance.{Good, none, next, AcceptedFile, Widening}
-use Rattle.standing.proofs.Faultless.{check_passes, no_fault, faultless, no_shape_fault, shape_faultless}
+use Rattle.standing.proofs.Faultless.{head_faultless, no_fault, faultless, no_shape_fault, shape_faultless}
 use Rattle.jobfile.proofs.Files.{acceptance}
 
 each_short : {old new : ℕ} → old ≤ new → (ns : List ℕ) → EachShort old ns → EachShort new ns
@@ -35,12 +31,7 @@ wider lo hi n h b = rw (le-leb lo n b.least, le-leb n hi (le_trans b.most h))
 
 module _ (old new : Limits) (w : Widened old new) where
   gap_range : (g : Gap) → gap_in_range old g ≡ true → gap_in_range new g ≡ true
-  gap_range (Both b) e = wider 0 new.side b w.side (between 0 old.side b e)
-  gap_range (Each b d) e =
-      rw (
-        wider 0 new.side b w.side (gap_between_lem old (Each b d) Drawn e),
-        wider 0 new.side d w.side (gap_between_lem old (Each b d) Dummy e),
-      )
+  gap_range g e = grind arith
 
   head_range : (h : Head) → head_in_range old h ≡ true → head_in_range new h ≡ true
   head_range h e =
@@ -57,25 +48,10 @@ module _ (old new : Limits) (w : Widened old new) where
       )
 
   rect_range : (r : Rect) → rect_in_range old r ≡ true → rect_in_range new r ≡ true
-  rect_range r e =
-      let c = corners old r e in
-      rw (
-        wider 0 new.side r.x1 w.side c.left,
-        wider 0 new.side r.y1 w.side c.low,
-        wider 0 new.side r.x2 w.side c.right,
-        wider 0 new.side r.y2 w.side c.high,
-      )
+  rect_range r e = grind arith
 
   fill_range : (i j p : ℕ) → fill_in_range old i j p ≡ true → fill_in_range new i j p ≡ true
-  fill_range i j p e =
-      let a = both (in_span 0 (old.tiles - 1) i && in_span 0 (old.tiles - 1) j) (in_span 1 old.amount p) e in
-      let b = both (in_span 0 (old.tiles - 1) i) (in_span 0 (old.tiles - 1) j) a.0 in
-      let tiles : old.tiles - 1 ≤ new.tiles - 1 = omega (arith, w.tiles) in
-      rw (
-        wider 0 (new.tiles - 1) i tiles (between 0 (old.tiles - 1) i b.0),
-        wider 0 (new.tiles - 1) j tiles (between 0 (old.tiles - 1) j b.1),
-        wider 1 new.amount p w.amount (between 1 old.amount p a.1),
-      )
+  fill_range i j p e = grind arith
 
   range : (f : Form) → in_range old f ≡ true → in_range new f ≡ true
   range Unknown e = e
@@ -85,15 +61,11 @@ module _ (old new : Limits) (w : Widened old new) where
   range End e = e
 
   agree : (h : Head) → agrees old h ≡ true → agrees new h ≡ true
-  agree h e =
-      let sides = leb h.window h.size && (eqb (h.window % h.cut) 0 && eqb (h.size % tile_side h) 0) in
-      let a = both sides (leb (tiles_across h) old.tiles && leb h.lower h.upper) e in
-      let b = both (leb (tiles_across h) old.tiles) (leb h.lower h.upper) a.1 in
-      rw (a.0, le-leb (tiles_across h) new.tiles (le_trans (leb-true (tiles_across h) old.tiles b.0) w.tiles), b.1)
+  agree h e = grind arith
 
   own : (st : Standing) (f : Form) → own_fault old st f ≡ 0 → own_fault new st f ≡ 0
   own st Unknown e = e
-  own st (Heading h) e = rw (agree h (check_passes (agrees old h) 5 0 (lit< tt) e).0)
+  own st (Heading h) e = rw (agree h (head_faultless old h e))
   own st (Metal s) e =
       let g = no_shape_fault old st s.rect e in
       shape_faultless new st s.rect (record { fits = g.fits; room = le_trans g.room w.shapes; free = g.free })

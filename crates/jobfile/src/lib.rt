@@ -1,28 +1,18 @@
 // The job file: its reader.
 #![tactic(auto)]
 
-mod reader;
-
-ghost use Rattle.std.specs.Prelude.{◌≡◌, IfOk, IfErr};
+ghost use Rattle.std.specs.Prelude.{◌≡◌, ◌≤◌, length};
+ghost use Rattle.spelling.specs.Text.{pieces};
 ghost use Rattle.forms.specs.Limits.{unit_limits};
-ghost use Rattle.jobfile.specs.File.{outcome_of};
-ghost use Rattle.jobfile.specs.Lined.{IsJob, refused_as};
+ghost use Rattle.standing.specs.Faults.{before_head};
+ghost use Rattle.jobfile.specs.File.{outcome_of, read_lines};
+ghost use Rattle.jobfile.specs.Lined.{LineRead, told};
 
-use forms::{Head, MOST_BYTES};
-use reader::read_lines;
-use standing::{AMOUNTS_ROOM, Fault, REGIONS_ROOM, SHAPES_ROOM};
-
-// A file that was read and has no fault: its head, the number of shapes, their
-// table, and the amounts of the tiles row by row. The table of shapes has four
-// numbers to a shape, its corners, and behind the room for all of these its kind, 1
-// for a dummy; no phase of an answer looks at kinds.
-#[derive(Drop)]
-pub struct Job {
-    pub head: Head,
-    pub count: usize,
-    pub shapes: [u64; SHAPES_ROOM],
-    pub amounts: [u64; AMOUNTS_ROOM],
-}
+use faults::check_line;
+use forms::MOST_BYTES;
+use lines::form_of;
+use spelling::first_line;
+use standing::{Fault, Standing, Turn};
 
 // What a file is refused for: its first fault, and the line that has it; 0 where it
 // is a fault of no line.
@@ -32,10 +22,51 @@ pub struct Refusal {
     pub line: u64,
 }
 
-// Reads a job file.
-pub fn read(file: &[u8]) -> Result<Job, Refusal>
-    ensures job { IfOk result (IsJob (outcome_of unit_limits file.now)) }
-    ensures refusal { IfErr result (λ e. outcome_of unit_limits file.now ≡ refused_as e) }
+// Reads the first line of what is left of a file; what comes back is its length with
+// its line feed.
+fn read_line(rest: &[u8], s: &mut Standing) -> Result<usize, Fault>
+    ensures { LineRead rest.now s.old result s.new }
+{
+    let n = first_line(rest);
+    if rest.len() <= n {
+        return Err(Fault::NotSpelled);
+    }
+    let form = form_of(&rest[..n]);
+    check_line(s, form)?;
+    s.enter(form);
+    Ok(n + 1)
+}
+
+// Reads all lines of a file that is not too long.
+fn read_lines(file: &[u8]) -> Result<Standing, Refusal>
+    requires { length file.now ≤ unit_limits.bytes }
+    ensures { told result ≡ read_lines unit_limits before_head 1 (pieces file.now) }
+{
+    let mut s = Standing::new();
+    let mut line = 1;
+    let mut rest = file;
+    while !rest.is_empty() {
+        match read_line(rest, &mut s) {
+            Ok(used) => {
+                rest = &rest[used..];
+                line += 1;
+            }
+            Err(fault) => return Err(Refusal { fault, line }),
+        }
+    }
+    match s.turn() {
+        Turn::Done => Ok(s),
+        _ => Err(Refusal {
+            fault: Fault::NoEnd,
+            line,
+        }),
+    }
+}
+
+// Reads a job file: what stands at its end, or what it is refused for.
+#[tactic(auto, unfolding(crate::specs::File::outcome_of))]
+pub fn read(file: &[u8]) -> Result<Standing, Refusal>
+    ensures { told result ≡ outcome_of unit_limits file.now }
 {
     if MOST_BYTES < file.len() {
         return Err(Refusal {
@@ -43,14 +74,5 @@ pub fn read(file: &[u8]) -> Result<Job, Refusal>
             line: 0,
         });
     }
-    let mut shapes = [0u64; SHAPES_ROOM];
-    let mut regions = [0u64; REGIONS_ROOM];
-    let mut amounts = [0u64; AMOUNTS_ROOM];
-    let end = read_lines(file, &mut shapes, &mut regions, &mut amounts)?;
-    Ok(Job {
-        head: end.head,
-        count: end.count,
-        shapes,
-        amounts,
-    })
+    read_lines(file)
 }

@@ -2,7 +2,7 @@
 -- adds nothing, and the flags of a level say this for the next. And the limit may be sought from the window named on.
 use Prim.Native.Nat.{ℕ, zero, suc, ◌+◌, ◌*◌, ◌/◌, ◌≤◌, ◌<◌}
 use mathlib.Core.Path.{◌≡◌, refl, sym, ◌∙◌, subst}
-use mathlib.Core.Bool.{Bool, true, false}
+use mathlib.Core.Bool.{Bool, true, false, false≢true, not}
 use mathlib.Core.Logic.{◌⊎◌, inl, inr}
 use mathlib.Core.List.{List}
 use native.Mathlib.Nat.{mul-le-mul_right, zero-mul}
@@ -10,7 +10,7 @@ use native.Mathlib.Decide.{ℕ_discrete}
 use native.Mathlib.Omega.{arith}
 use lib.ListN.{length, get_or, set, replicate, length-set, length-replicate, get_or-replicate, get_or-eq_default}
 use lib.Seq.{get_or-set_same, get_or-set_other}
-use Rattle.laws.proofs.Tests.{le_or_lt}
+use Rattle.laws.proofs.Tests.{le_or_lt, true_false}
 use Rattle.geometry.specs.declared.Rect.{Rect}
 use Rattle.geometry.specs.declared.Spot.{Spot}
 use Rattle.geometry.specs.declared.Sense.{Sense}
@@ -18,58 +18,59 @@ use Rattle.geometry.specs.Extreme.{better, spot_at, best_in_rows, NoBetter}
 use Rattle.geometry.specs.Positions.{window_area}
 use Rattle.levels.specs.Levels.{starts_on, far_area, level_of}
 use Rattle.levels.specs.Passing.{flag_of, flags_in_row, flags_in_rows, Harmless}
-use Rattle.levels.proofs.Folds.{no_better_trans, rows_see, rows_forget}
+use Rattle.levels.specs.Laws.{no_better_trans}
+use Rattle.levels.proofs.Folds.{rows_see, rows_forget}
 use Rattle.levels.specs.Grid.{AtStart}
 use Rattle.levels.proofs.Starts.{start_fits, half_start, window_within, far_halves}
 use Rattle.levels.proofs.LevelWindows.{level_at_start}
 
 -- ---- what the flags of a level say
 
-flag_says : (s : Sense) (best far : ℕ) → flag_of s best far ≡ 1 → NoBetter s far best
-flag_says s best far h = go (better s far best) refl
+flag_says : (s : Sense) (best far : ℕ) → flag_of s best far ≡ true → NoBetter s far best
+flag_says s best far h = go (better s far best) h
   where
-    go : (b : Bool) → better s far best ≡ b → better s far best ≡ false
-    go true e = absurd (omega (arith, rw e at h))
-    go false e = e
+    go : (b : Bool) → not b ≡ true → b ≡ false
+    go true e = absurd (false≢true e)
+    go false e = refl
 
--- a flag that reads 1 was written so
-set_says : (l : List ℕ) (p v : ℕ) → get_or (set l p v) p 0 ≡ 1 → v ≡ 1
+-- a flag that is read was written so
+set_says : (l : List Bool) (p : ℕ) (v : Bool) → get_or (set l p v) p false ≡ true → v ≡ true
 set_says l p v h = go (le_or_lt (length l) p)
   where
-    go : (length l ≤ p) ⊎ (p < length l) → v ≡ 1
-    go (inl k) = absurd (omega (arith, h, get_or-eq_default {A = ℕ} (set l p v) 0 {n = p} (omega (arith, length-set l p v))))
-    go (inr k) = sym (get_or-set_same l p v 0 k) ∙ h
+    go : (length l ≤ p) ⊎ (p < length l) → v ≡ true
+    go (inl k) = absurd (true_false _ h (get_or-eq_default (set l p v) false {n = p} (omega (arith, length-set l p v))))
+    go (inr k) = sym (get_or-set_same l p v false k) ∙ h
 
-row_flags : (s : Sense) (best : ℕ) (far : ℕ → ℕ) (t at k : ℕ) (l : List ℕ) (i : ℕ) → i < k → get_or (flags_in_row s best far t at k l) (at + i) 0 ≡ 1 →
+row_flags : (s : Sense) (best : ℕ) (far : ℕ → ℕ) (t at k : ℕ) (l : List Bool) (i : ℕ) → i < k → get_or (flags_in_row s best far t at k l) (at + i) false ≡ true →
     NoBetter s (far (i * t)) best
 unfolding flags_in_row
 row_flags s best far t at zero l i h e = absurd (omega arith)
 row_flags s best far t at (suc k) l i h e = go (ℕ_discrete i k) (row_flags s best far t at k l i)
   where
-    rest : List ℕ
+    rest : List Bool
     rest = flags_in_row s best far t at k l
 
-    go : Dec (i ≡ k) → (i < k → get_or rest (at + i) 0 ≡ 1 → NoBetter s (far (i * t)) best) → NoBetter s (far (i * t)) best
+    go : Dec (i ≡ k) → (i < k → get_or rest (at + i) false ≡ true → NoBetter s (far (i * t)) best) → NoBetter s (far (i * t)) best
     go (yes q) r = rw q (flag_says s best (far (k * t)) (set_says rest (at + k) (flag_of s best (far (k * t))) (rw q at e)))
-    go (no q) r = r (omega arith) (sym (get_or-set_other rest (at + k) (at + i) (flag_of s best (far (k * t))) 0 (omega arith)) ∙ e)
+    go (no q) r = r (omega arith) (sym (get_or-set_other rest (at + k) (at + i) (flag_of s best (far (k * t))) false (omega arith)) ∙ e)
 
 -- flags before the row stay
-row_leaves : (s : Sense) (best : ℕ) (far : ℕ → ℕ) (t at k : ℕ) (l : List ℕ) (p : ℕ) → p < at → get_or (flags_in_row s best far t at k l) p 0 ≡ get_or l p 0
+row_leaves : (s : Sense) (best : ℕ) (far : ℕ → ℕ) (t at k : ℕ) (l : List Bool) (p : ℕ) → p < at → get_or (flags_in_row s best far t at k l) p false ≡ get_or l p false
 unfolding flags_in_row
 row_leaves s best far t at zero l p h = refl
 row_leaves s best far t at (suc k) l p h =
-    get_or-set_other (flags_in_row s best far t at k l) (at + k) p (flag_of s best (far (k * t))) 0 (omega arith) ∙ row_leaves s best far t at k l p h
+    get_or-set_other (flags_in_row s best far t at k l) (at + k) p (flag_of s best (far (k * t))) false (omega arith) ∙ row_leaves s best far t at k l p h
 
-rows_flag : (s : Sense) (best : ℕ) (far : ℕ → ℕ → ℕ) (t k m : ℕ) (l : List ℕ) (i j : ℕ) → i < k → j < m →
-    get_or (flags_in_rows s best far t k m l) (j * k + i) 0 ≡ 1 → NoBetter s (far (i * t) (j * t)) best
+rows_flag : (s : Sense) (best : ℕ) (far : ℕ → ℕ → ℕ) (t k m : ℕ) (l : List Bool) (i j : ℕ) → i < k → j < m →
+    get_or (flags_in_rows s best far t k m l) (j * k + i) false ≡ true → NoBetter s (far (i * t) (j * t)) best
 unfolding flags_in_rows
 rows_flag s best far t k zero l i j h d e = absurd (omega arith)
 rows_flag s best far t k (suc m) l i j h d e = go (ℕ_discrete j m) (rows_flag s best far t k m l i j h)
   where
-    rest : List ℕ
+    rest : List Bool
     rest = flags_in_rows s best far t k m l
 
-    go : Dec (j ≡ m) → (j < m → get_or rest (j * k + i) 0 ≡ 1 → NoBetter s (far (i * t) (j * t)) best) → NoBetter s (far (i * t) (j * t)) best
+    go : Dec (j ≡ m) → (j < m → get_or rest (j * k + i) false ≡ true → NoBetter s (far (i * t) (j * t)) best) → NoBetter s (far (i * t) (j * t)) best
     go (yes q) r = rw q (row_flags s best (λ x. far x (m * t)) t (m * k) k rest i h (rw q at e))
     go (no q) r =
         r (omega arith)
@@ -77,14 +78,15 @@ rows_flag s best far t k (suc m) l i j h d e = go (ℕ_discrete j m) (rows_flag 
 
 -- ---- it is harmless to pass over what the flags say
 
-pub harmless_first : (s : Sense) (rs : List Rect) (n w t stride size best : ℕ) → Harmless s rs n w t (replicate size 0) stride best
+pub harmless_first : (s : Sense) (rs : List Rect) (n w t stride size best : ℕ) → Harmless s rs n w t (replicate size false) stride best
 harmless_first s rs n w t stride size best j k i h e = absurd (go (le_or_lt size (j / 2 * stride + i / 2)))
   where
     go : (size ≤ j / 2 * stride + i / 2) ⊎ (j / 2 * stride + i / 2 < size) → ⊥
-    go (inl l) = omega (arith, e, get_or-eq_default {A = ℕ} (replicate size 0) 0 {n = j / 2 * stride + i / 2} (omega (arith, length-replicate {A = ℕ} size 0)))
-    go (inr l) = omega (arith, e, get_or-replicate {A = ℕ} size (j / 2 * stride + i / 2) 0 0 l)
+    go (inl l) =
+        true_false _ e (get_or-eq_default (replicate size false) false {n = j / 2 * stride + i / 2} (omega (arith, length-replicate {A = Bool} size false)))
+    go (inr l) = true_false _ e (get_or-replicate size (j / 2 * stride + i / 2) false false l)
 
-pub harmless_next : (s : Sense) (rs : List Rect) (n w t best : ℕ) (l : List ℕ) → 1 ≤ t →
+pub harmless_next : (s : Sense) (rs : List Rect) (n w t best : ℕ) (l : List Bool) → 1 ≤ t →
     Harmless s rs n w t
     (flags_in_rows s best (far_area s rs n w (2 * t)) (2 * t) (starts_on n w (2 * t)) (starts_on n w (2 * t)) l)
     (starts_on n w (2 * t)) best

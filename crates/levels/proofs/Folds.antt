@@ -4,17 +4,12 @@ use mathlib.Core.Path.{◌≡◌, refl, sym, ap, ap₂, ◌∙◌, subst}
 use mathlib.Core.Bool.{Bool, true, false}
 use mathlib.Core.Logic.{inl, inr}
 use native.Mathlib.Omega.{arith}
-use borrow.Author.Tests.{ltb-false, le-ltb}
 use Rattle.geometry.specs.declared.Spot.{Spot}
 use Rattle.geometry.specs.declared.Sense.{Sense}
-use Rattle.geometry.specs.declared.Sense.TheVariants.{Greatest, Least}
 use Rattle.geometry.specs.Extreme.{better, spot_at, replaced, best_in_row, best_in_rows, NoBetter}
-use Rattle.geometry.proofs.Extremes.{better_self, better_not, better_neither, step_better, step_skip, BestAfter, Start, after_no_worse, after_none_better, best_after_unique, rows_best, rows_best_of_all}
+use Rattle.geometry.proofs.Extremes.{better_self, better_neither, step_better, step_skip, BestAfter, Start, after_no_worse, after_none_better, best_after_unique, rows_best, rows_best_of_all}
 use Rattle.levels.specs.Weighing.{better_area}
-
-pub no_better_trans : (s : Sense) (a b c : ℕ) → NoBetter s a b → NoBetter s b c → NoBetter s a c
-no_better_trans Greatest a b c h k = le-ltb c a (omega (arith, ltb-false b a h, ltb-false c b k))
-no_better_trans Least a b c h k = le-ltb a c (omega (arith, ltb-false a b h, ltb-false b c k))
+use Rattle.levels.specs.Laws.{no_better_trans, replaced_stays}
 
 -- ---- areas alone
 
@@ -25,27 +20,7 @@ area_better s b c = go (better s c.area b.area) refl
     go true e = rw (e, better_area, replaced)
     go false e = rw (e, better_area, replaced)
 
-pub area_taken : (s : Sense) (old new : ℕ) → better s new old ≡ true → better_area s old new ≡ new
-area_taken s old new h = rw (h, better_area)
-
-pub area_skip : (s : Sense) (old new : ℕ) → NoBetter s new old → better_area s old new ≡ old
-area_skip s old new h = rw (h, better_area)
-
-pub area_stays : (s : Sense) (old new : ℕ) → NoBetter s old (better_area s old new)
-area_stays s old new = go (better s new old) refl
-  where
-    go : (t : Bool) → better s new old ≡ t → NoBetter s old (better_area s old new)
-    go true e = rw (e, better_area) (better_not s new old e)
-    go false e = rw (e, better_area) (better_self s old)
-
 -- ---- a row
-
-pub replaced_stays : (s : Sense) (b c : Spot) → NoBetter s b.area (replaced s b c).area
-replaced_stays s b c = go (better s c.area b.area) refl
-  where
-    go : (t : Bool) → better s c.area b.area ≡ t → NoBetter s b.area (replaced s b c).area
-    go true e = rw (step_better s b c e) (better_not s c.area b.area e)
-    go false e = rw (step_skip s b c e) (better_self s b.area)
 
 pub row_stays : (s : Sense) (f : ℕ → ℕ → ℕ) (t y n : ℕ) (b : Spot) → NoBetter s b.area (best_in_row s f t y n b).area
 unfolding best_in_row
@@ -55,12 +30,20 @@ row_stays s f t y (suc n) b =
     (replaced_stays s (best_in_row s f t y n b) (spot_at f (n * t) y))
 
 -- only the areas at the starts count
-pub row_cong : (s : Sense) (f g : ℕ → ℕ → ℕ) (t y n : ℕ) (b : Spot) → ((i : ℕ) → i < n → f (i * t) y ≡ g (i * t) y) →
+row_cong : (s : Sense) (f g : ℕ → ℕ → ℕ) (t y n : ℕ) (b : Spot) → ((i : ℕ) → i < n → f (i * t) y ≡ g (i * t) y) →
     best_in_row s f t y n b ≡ best_in_row s g t y n b
 unfolding best_in_row
 row_cong s f g t y zero b h = refl
 row_cong s f g t y (suc n) b h =
     ap₂ (λ (c : Spot) (a : ℕ). replaced s c (record { area = a; x = n * t; y = y })) (row_cong s f g t y n b (λ i k. h i (omega arith))) (h n (omega arith))
+
+pub rows_cong : (s : Sense) (f g : ℕ → ℕ → ℕ) (t n m : ℕ) (b : Spot) → ((i j : ℕ) → i < n → j < m → f (i * t) (j * t) ≡ g (i * t) (j * t)) →
+    best_in_rows s f t n m b ≡ best_in_rows s g t n m b
+unfolding best_in_rows
+rows_cong s f g t n zero b h = refl
+rows_cong s f g t n (suc m) b h =
+    ap (best_in_row s f t (m * t) n) (rows_cong s f g t n m b (λ i j k l. h i j k (omega arith)))
+    ∙ row_cong s f g t (m * t) n (best_in_rows s g t n m b) (λ i k. h i m k (omega arith))
 
 -- ---- rows
 

@@ -17,7 +17,8 @@ use Rattle.geometry.proofs.Overlaps.{area_small}
 use Rattle.levels.specs.Levels.{starts_on, bloated, shrunk, far_area, best_start, level_of}
 use Rattle.levels.specs.Sizes.{LevelSmall}
 use Rattle.levels.specs.Grid.{AtStart}
-use Rattle.levels.proofs.Folds.{no_better_trans, replaced_area, rows_are, rows_see, rows_replace}
+use Rattle.levels.specs.Laws.{no_better_trans}
+use Rattle.levels.proofs.Folds.{replaced_area, rows_are, rows_see, rows_replace}
 use Rattle.levels.proofs.Starts.{StartBelow, at_start, start_fits, start_below, half_start, window_within, far_halves}
 
 -- a named window is a position, and has the area named with it

@@ -2,13 +2,11 @@
 use Rattle.std.specs.Prelude.{ℕ, ◌*◌, ◌≤◌, ◌<◌, ◌≡◌, List}
 use Rattle.geometry.specs.declared.Rect.{Rect}
 use Rattle.geometry.specs.declared.Spot.{Spot}
-use Rattle.geometry.specs.Layout.{rects_of}
 use Rattle.geometry.specs.Extreme.{spot_at}
 use Rattle.geometry.specs.Positions.{window_area}
-use Rattle.levels.specs.declared.Grid.{Grid}
+use Rattle.levels.specs.declared.grid.Grid.{Grid}
 use Rattle.levels.specs.Levels.{starts_on, far_area}
 use Rattle.geometry.specs.Sizes.{widest}
-use Rattle.levels.specs.Sizes.{starts_room}
 
 -- what counting the starts on an axis asks
 pub record Countable (n w t : ℕ) : Type 0 where
@@ -16,18 +14,9 @@ pub record Countable (n w t : ℕ) : Type 0 where
   pub inside : w ≤ n
   pub some_step : 1 ≤ t
 
--- the starts of a level, and what 64 bits ask of them and of the rows of flags above them
-pub record Sized (g : Grid) : Type 0 where
-  pub small : g.n ≤ widest
-  pub inside : g.w ≤ g.n
-  pub some_step : 1 ≤ g.t
-  pub step_fits : g.t ≤ g.w
-  pub count : g.starts ≡ starts_on g.n g.w g.t
-  pub few_above : g.stride ≤ starts_room
-
 -- the far area of the window at a position of the level
-abbrev pub far_on : Grid → (rects : List ℕ) → (x y : ℕ) → ℕ
-far_on g rects = far_area g.sense (rects_of rects) g.n g.w g.t
+abbrev pub far_on : Grid → (rects : List Rect) → (x y : ℕ) → ℕ
+far_on g rects = far_area g.sense rects g.size g.window g.step
 
 -- a window at a start, with its area
 pub record AtStart (rs : List Rect) (n w t : ℕ) (b : Spot) : Type 0 where

@@ -5,3 +5,4 @@ pub mod Spans
 pub mod Passing
 pub mod Weighing
 pub mod Passes
+pub mod Laws

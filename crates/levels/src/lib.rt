@@ -3,23 +3,19 @@
 #![tactic(auto)]
 
 mod flags;
+mod grid;
 mod passes;
 mod spans;
 
 ghost use Rattle.std.specs.Prelude.{◌≡◌};
-ghost use Rattle.geometry.specs.Layout.{rects_of};
-ghost use Rattle.levels.specs.declared.Pass.TheVariants.{Standard};
 ghost use Rattle.levels.specs.Levels.{starts_on, level_of};
 ghost use Rattle.levels.specs.Grid.{Countable, AtStart, far_on};
 ghost use Rattle.levels.specs.Passing.{Passable, flags_in_rows};
 
-pub use flags::flag_count;
-use geometry::{Sense, Spot};
-
-// The flags of a level, one to a start, fit up to 505 starts on an axis, which the
-// largest legal job has at level 3, the last whose flags are read. Where there
-// are more, those without a flag are not passed over.
-pub const MOST_FLAGS: usize = 505 * 505;
+pub use flags::{Flags, MOST_FLAGS, flag_count};
+use geometry::Spot;
+pub use grid::Grid;
+use sweep::Sorted;
 
 // A level: the window named; the limit, that is the far end of the bracket,
 // which no window passes: the best area of a bloated window for the greatest,
@@ -33,69 +29,34 @@ pub struct Level {
     pub kept: u64,
 }
 
-// A level, as one of its passes sees it: the sense of the extreme, which pass it
-// is, the layout's side n, the window's side w, the step t between starts, the
-// number of starts on an axis, and how many flags a row of the level before has.
-// The paper calls the step a tile side; the fill has other tiles.
-#[derive(Clone, Copy)]
-pub struct Grid {
-    pub sense: Sense,
-    pub pass: Pass,
-    pub n: u64,
-    pub w: u64,
-    pub t: u64,
-    pub starts: u64,
-    pub stride: u64,
+// The number of starts on an axis.
+pub fn starts_on(size: u64, window: u64, step: u64) -> u64
+    requires { Countable size window step }
+    ensures { result ≡ starts_on size window step }
+{
+    (size - window) / step + 1
 }
 
-// The two passes of a level: over the standard windows, which name its window, and
+// One level, in two passes: over the standard windows, which name its window, and
 // over the far ones, bloated or shrunk, which give its limit, the starts kept and
 // the flags for the next level.
-#[derive(Clone, Copy)]
-pub enum Pass {
-    Standard,
-    Far,
-}
-
-// The number of starts on an axis.
-pub fn starts_on(n: u64, w: u64, t: u64) -> u64
-    requires { Countable n w t }
-    ensures { result ≡ starts_on n w t }
-{
-    (n - w) / t + 1
-}
-
-// One level, in two passes: its window must be known before a start is kept or
-// flagged. `g` is its grid for the first.
 pub fn search_level(
-    rects: &[u64],
-    order: &[usize],
-    flags: &[u8],
-    new: &mut [u8],
+    sorted: &Sorted<'_>,
+    flags: Flags<'_>,
+    new: &mut [bool],
     g: Grid,
     before: Spot,
 ) -> Level
-    requires passable { Passable rects.now order.now flags.now g before.area }
-    requires at_start { AtStart (rects_of rects.now) g.n g.w g.t before }
-    requires pass_value { g.pass ≡ Standard }
-    ensures value { result ≡ level_of g.sense (rects_of rects.now) g.n g.w g.t before }
-    ensures after { new.new ≡ flags_in_rows g.sense result.named.area (far_on g rects.now) g.t (starts_on g.n g.w g.t) (starts_on g.n g.w g.t) new.old }
+    requires passable { Passable sorted.now.rects.now g flags.table.now flags.stride before.area }
+    requires at_start { AtStart sorted.now.rects.now g.size g.window g.step before }
+    ensures value { result ≡ level_of g.sense sorted.now.rects.now g.size g.window g.step before }
+    ensures after { new.new ≡ flags_in_rows g.sense result.named.area (far_on g sorted.now.rects.now) g.step (starts_on g.size g.window g.step) (starts_on g.size g.window g.step) new.old }
 {
-    let none = Level {
-        named: before,
-        limit: 0,
-        kept: 0,
-    };
-    let first = passes::rows(rects, order, flags, new, g, none);
-    let named = first.named;
+    let named = passes::rows(sorted, flags, new, g, before);
     let start = Level {
         named,
         limit: named.area,
         kept: 0,
     };
-    let far = Grid {
-        pass: Pass::Far,
-        ..g
-    };
-    passes::rows(rects, order, flags, new, far, start)
+    passes::rows(sorted, flags, new, g, start)
 }

@@ -1,33 +1,31 @@
 // The phases of a job by themselves, for the benchmark. Each gives one number of
 // the answer, so that no phase can be left out.
-#![tactic(auto)]
+#![tactic(auto, unfolding(run::specs::Answering::answer_for))]
 
 ghost use Rattle.std.specs.Prelude.{◌≡◌};
-ghost use Rattle.geometry.specs.Layout.{rects_of};
 ghost use Rattle.forms.specs.Limits.{unit_limits};
 ghost use Rattle.jobfile.specs.File.{outcome_of};
-ghost use Rattle.sweep.specs.Strips.{Swept};
 ghost use Rattle.extremes.specs.Exact.{extreme_in};
 ghost use Rattle.run.specs.Answering.{answer_for, quick_in};
 ghost use Rattle.run.specs.Ready.{Ready};
-ghost use Rattle.unit.specs.Readable.{Readable, job_answer};
+ghost use Rattle.unit.specs.Readable.{Readable};
+ghost use Rattle.unit.specs.Whole.{answer_of};
 ghost use Rattle.phases.specs.Phase.{verdict_number, phase_number, phase_of};
 
 use extremes::Extremes;
 use fill::Verdict;
 use forms::Head;
-use geometry::{Sense, Spot};
-use jobfile::Job;
-use sweep::ORDER_ROOM;
+use geometry::{Rect, Sense, Spot};
+use standing::Standing;
+use sweep::Sorted;
 use zoom::Asked;
 
 // The exact run: the greatest area.
-fn greatest_area(head: Head, rects: &[u64], order: &[usize], amounts: &[u64]) -> u64
-    requires ready { Ready head rects.now amounts.now }
-    requires swept { Swept rects.now order.now }
-    ensures { result ≡ (answer_for head (rects_of rects.now) amounts.now).exact.greatest.area }
+fn greatest_area(head: Head, sorted: &Sorted, amounts: &[u64]) -> u64
+    requires { Ready head sorted.now.rects.now amounts.now }
+    ensures { result ≡ (answer_for head sorted.now.rects.now amounts.now).exact.greatest.area }
 {
-    let exact = extremes::exact_run(rects, order, head.size, head.window);
+    let exact = extremes::exact_run(sorted, head.size, head.window);
     exact.greatest.area
 }
 
@@ -41,14 +39,13 @@ fn extreme_in(sense: Sense, e: Extremes) -> Spot
 }
 
 // The exact run and the quick run for an extreme: the ceiling or the low end.
-fn limit(sense: Sense, head: Head, rects: &[u64], order: &[usize], amounts: &[u64]) -> u64
-    requires ready { Ready head rects.now amounts.now }
-    requires swept { Swept rects.now order.now }
-    ensures { result ≡ (quick_in sense (answer_for head (rects_of rects.now) amounts.now)).last.limit }
+fn limit(sense: Sense, head: Head, sorted: &Sorted, amounts: &[u64]) -> u64
+    requires { Ready head sorted.now.rects.now amounts.now }
+    ensures { result ≡ (quick_in sense (answer_for head sorted.now.rects.now amounts.now)).last.limit }
 {
     let size = head.size;
     let window = head.window;
-    let exact = extremes::exact_run(rects, order, size, window);
+    let exact = extremes::exact_run(sorted, size, window);
     let m = extreme_in(sense, exact);
     let asked = Asked {
         size,
@@ -56,85 +53,70 @@ fn limit(sense: Sense, head: Head, rects: &[u64], order: &[usize], amounts: &[u6
         accuracy: head.accuracy,
         levels: head.levels,
     };
-    let quick = zoom::quick_run(sense, rects, order, asked, m);
+    let quick = zoom::quick_run(sense, sorted, asked, m);
     quick.last.limit
 }
 
+// A number for each verdict, as the C interface gives it.
 fn number_of(v: Verdict) -> u64
     ensures { result ≡ verdict_number v }
 {
     match v {
         Verdict::Safe => 0,
-        Verdict::Broken(_, _, _) => 1,
-        Verdict::Undecided(_, _, _) => 2,
+        Verdict::Broken(_) => 1,
+        Verdict::Undecided(_) => 2,
     }
 }
 
 // The verdict, as a number.
-fn judged_number(head: Head, rects: &[u64], order: &[usize], amounts: &[u64]) -> u64
-    requires ready { Ready head rects.now amounts.now }
-    requires swept { Swept rects.now order.now }
-    ensures { result ≡ verdict_number (answer_for head (rects_of rects.now) amounts.now).verdict }
+fn judged_number(head: Head, sorted: &Sorted, amounts: &[u64]) -> u64
+    requires { Ready head sorted.now.rects.now amounts.now }
+    ensures { result ≡ verdict_number (answer_for head sorted.now.rects.now amounts.now).verdict }
 {
-    number_of(fill::judge(rects, order, amounts, standing::plan_of(head)))
+    number_of(fill::judge(sorted, amounts, standing::plan_of(head)))
 }
 
 // The positions within the bounds. The order of the sides plays no part.
-fn within(head: Head, rects: &[u64], amounts: &[u64]) -> u64
+fn within(head: Head, rects: &[Rect], amounts: &[u64]) -> u64
     requires { Ready head rects.now amounts.now }
-    ensures { result ≡ (answer_for head (rects_of rects.now) amounts.now).positions.within }
+    ensures { result ≡ (answer_for head rects.now amounts.now).positions.within }
 {
     let tally = positions::count_positions(rects, head.size, head.window, head.lower, head.upper);
     tally.within
 }
 
-fn ordered_phase(phase: u64, head: Head, rects: &[u64], order: &[usize], amounts: &[u64]) -> u64
-    requires ready { Ready head rects.now amounts.now }
-    requires swept { Swept rects.now order.now }
-    ensures { result ≡ phase_number phase (answer_for head (rects_of rects.now) amounts.now) }
+// The phases have the numbers of the C interface.
+fn sorted_phase(phase: u64, head: Head, sorted: &Sorted, amounts: &[u64]) -> u64
+    requires { Ready head sorted.now.rects.now amounts.now }
+    ensures { result ≡ phase_number phase (answer_for head sorted.now.rects.now amounts.now) }
 {
-    if phase == 1 {
-        return greatest_area(head, rects, order, amounts);
+    match phase {
+        1 => greatest_area(head, sorted, amounts),
+        2 => limit(Sense::Greatest, head, sorted, amounts),
+        3 => limit(Sense::Least, head, sorted, amounts),
+        4 => judged_number(head, sorted, amounts),
+        5 => within(head, sorted.rects, amounts),
+        _ => 0,
     }
-    if phase == 2 {
-        return limit(Sense::Greatest, head, rects, order, amounts);
-    }
-    if phase == 3 {
-        return limit(Sense::Least, head, rects, order, amounts);
-    }
-    if phase == 4 {
-        return judged_number(head, rects, order, amounts);
-    }
-    if phase == 5 {
-        return within(head, rects, amounts);
-    }
-    0
 }
 
 // Sorting the sides counts with the other phases, and not with reading, which is
 // phase 0.
-fn phase_number(phase: u64, head: Head, rects: &[u64], amounts: &[u64]) -> u64
+fn phase_number(phase: u64, head: Head, rects: &[Rect], amounts: &[u64]) -> u64
     requires { Ready head rects.now amounts.now }
-    ensures { result ≡ phase_number phase (answer_for head (rects_of rects.now) amounts.now) }
+    ensures { result ≡ phase_number phase (answer_for head rects.now amounts.now) }
 {
     if phase == 0 {
         return 0;
     }
-    let mut order = [0usize; ORDER_ROOM];
-    let count = sweep::order_sides(rects, &mut order);
-    ordered_phase(phase, head, rects, &order[..count], amounts)
+    sorted_phase(phase, head, &Sorted::of(rects), amounts)
 }
 
-fn job_phase(phase: u64, job: Job) -> u64
-    requires { Readable job }
-    ensures { result ≡ phase_number phase (job_answer job) }
+fn job_phase(phase: u64, job: &Standing) -> u64
+    requires { Readable job.now }
+    ensures { result ≡ phase_number phase (answer_of job.now) }
 {
-    let head = job.head;
-    let shapes = job.shapes;
-    let amounts = job.amounts;
-    let numbers = 4 * job.count;
-    let tiles = forms::tile_count(head);
-    phase_number(phase, head, &shapes[..numbers], &amounts[..tiles])
+    phase_number(phase, job.head(), job.rects(), job.amounts())
 }
 
 // Reads a file, and runs one phase of an accepted one: 1 the exact run, 2 and 3
@@ -144,7 +126,7 @@ pub fn density_phase(file: &[u8], phase: u64) -> u64
     ensures { result ≡ phase_of phase (outcome_of unit_limits file.now) }
 {
     match jobfile::read(file) {
-        Ok(job) => job_phase(phase, job),
+        Ok(job) => job_phase(phase, &job),
         Err(_) => 0,
     }
 }

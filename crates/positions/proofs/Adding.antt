@@ -10,9 +10,9 @@ use native.Mathlib.Omega.{arith}
 use lib.Dec.{leb, ltb}
 use borrow.Author.Tests.{lt-ltb, le-ltb, le-leb, lt-leb}
 use Rattle.laws.proofs.Tests.{le_or_lt}
+use Rattle.std.specs.Int.{div_ceil}
 use Rattle.geometry.specs.declared.Rect.{Rect}
 use Rattle.geometry.specs.Count.{one_if, box_sum}
-use Rattle.geometry.specs.Layout.{rects_of}
 use Rattle.geometry.specs.Positions.{window_area, positions, Position}
 use Rattle.geometry.specs.Bounds.{keeps_upper, keeps_lower}
 use Rattle.geometry.proofs.Counting.{box_cong, box_plus, box_const, box_zero, box_term}
@@ -24,12 +24,12 @@ use Rattle.below.proofs.FirstBox.{first_positions, whole_side}
 -- ---- thresholds
 
 -- 10000 × a is below m exactly if a is below m / 10000, rounded up; and it is at most m exactly if a is at most m / 10000, rounded down
-fails_below : (a m : ℕ) → ltb a ((m + 9999) / 10000) ≡ not (leb m (10000 * a))
+fails_below : (a m : ℕ) → ltb a (div_ceil m 10000) ≡ not (leb m (10000 * a))
 fails_below a m = go (le_or_lt m (10000 * a))
   where
-    go : (m ≤ 10000 * a) ⊎ (10000 * a < m) → ltb a ((m + 9999) / 10000) ≡ not (leb m (10000 * a))
-    go (inl h) = le-ltb a ((m + 9999) / 10000) (omega arith) ∙ ap not (sym (le-leb m (10000 * a) h))
-    go (inr h) = lt-ltb a ((m + 9999) / 10000) (omega arith) ∙ ap not (sym (lt-leb m (10000 * a) h))
+    go : (m ≤ 10000 * a) ⊎ (10000 * a < m) → ltb a (div_ceil m 10000) ≡ not (leb m (10000 * a))
+    go (inl h) = le-ltb a (div_ceil m 10000) (omega arith) ∙ ap not (sym (le-leb m (10000 * a) h))
+    go (inr h) = lt-ltb a (div_ceil m 10000) (omega arith) ∙ ap not (sym (lt-leb m (10000 * a) h))
 
 keeps_below : (a m : ℕ) → ltb a (m / 10000 + 1) ≡ leb (10000 * a) m
 keeps_below a m = go (le_or_lt (10000 * a) m)
@@ -116,18 +116,18 @@ module _ (rs : List Rect) (n w lower upper : ℕ) (order : lower ≤ upper) wher
 
   -- ---- by two counts
 
-  module _ (t : List ℕ) (e : rs ≡ rects_of t) (p : ℕ) (q : p ≡ n - w + 1) where
-    counted : (f : ℕ → Bool) (k area : ℕ) → k ≡ below_in t (record { window = w; area = area }) (first_positions p) → ((a : ℕ) → ltb a area ≡ f a) →
+  module _ (p : ℕ) (q : p ≡ n - w + 1) where
+    counted : (f : ℕ → Bool) (k area : ℕ) → k ≡ below_in rs (record { window = w; area = area }) (first_positions p) → ((a : ℕ) → ltb a area ≡ f a) →
         k ≡ positions_where f rs n w
     counted f k area d h =
         d
-        ∙ ap₂ (λ (m : ℕ) (l : List Rect). box_sum (first_positions m) (λ x y. one_if (ltb (window_area l w x y) area))) (q ∙ add-one (n - w)) (sym e)
+        ∙ ap (λ (m : ℕ). box_sum (first_positions m) (λ x y. one_if (ltb (window_area rs w x y) area))) (q ∙ add-one (n - w))
         ∙ where_cong rs n w (λ a. ltb a area) f h
 
-    module _ (k m : ℕ) (c : k ≡ below_in t (record { window = w; area = (lower * w * w + 9999) / 10000 }) (first_positions p))
-        (d : m ≡ below_in t (record { window = w; area = upper * w * w / 10000 + 1 }) (first_positions p)) where
+    module _ (k m least : ℕ) (e : least ≡ div_ceil (lower * w * w) 10000) (c : k ≡ below_in rs (record { window = w; area = least }) (first_positions p))
+        (d : m ≡ below_in rs (record { window = w; area = upper * w * w / 10000 + 1 }) (first_positions p)) where
       under_is : k ≡ tally.under
-      under_is = counted (λ a. not (keeps_lower lower w a)) k ((lower * w * w + 9999) / 10000) c (λ a. fails_below a (lower * w * w))
+      under_is = counted (λ a. not (keeps_lower lower w a)) k least c (λ a. ap (ltb a) e ∙ fails_below a (lower * w * w))
 
       kept_count : m ≡ kept
       kept_count = counted (keeps_upper upper w) m (upper * w * w / 10000 + 1) d (λ a. keeps_below a (upper * w * w))

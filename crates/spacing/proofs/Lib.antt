@@ -1,4 +1,3 @@
-pub mod SmallRegions
 pub mod Distances
 pub mod Outside
 pub mod Rounded

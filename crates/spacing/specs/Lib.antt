@@ -1,5 +1,6 @@
 pub mod Eligible
 pub mod SquareCorners
+pub mod Span
 pub mod Regions
 pub mod Nearness
 pub mod Sizes

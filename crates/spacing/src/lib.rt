@@ -11,25 +11,17 @@ use geometry::{Rect, window_box};
 mod idle;
 mod near;
 mod quarter;
-mod regions;
+mod region;
+mod shape;
+mod span;
 
-pub use idle::{depth_in, is_spare};
-pub use near::{covers_box, is_near};
-pub use quarter::{held_area, is_quarter};
-pub use regions::{REGION_NUMBERS, keep_out, outline, region_at};
+pub use region::Region;
 
 // A shape as fill sees it: its rectangle, and the least gap between it and fill.
 #[derive(Clone, Copy)]
 pub struct Keepout {
     pub rect: Rect,
     pub gap: u64,
-}
-
-// All places nearer to a core than a reach, by straight distance.
-#[derive(Clone, Copy)]
-pub struct Region {
-    pub core: Rect,
-    pub reach: u64,
 }
 
 // The box of a tile.

@@ -1,248 +1,259 @@
--- A good line entered into the state and its tables: what they hold then is what stands after it.
-use Prim.Native.Nat.{ℕ, ◌+◌, ◌-◌, ◌*◌, ◌≤◌, ◌<◌}
+-- A good line entered into the fields that hold what stands: what they hold then is what stands after it.
+use Prim.Native.Nat.{ℕ, ◌≤◌, ◌<◌}
 use mathlib.Core.Path.{◌≡◌, refl, sym, ap, ap₂, ◌∙◌, subst}
-use mathlib.Core.Bool.{true, false≢true}
 use mathlib.Core.List.{List, [], ◌∷◌, ◌++◌, map-append}
-use Rattle.std.specs.Prelude.{Some, None}
 use native.Mathlib.Nat.{mul-le-mul, lt_of_lt_of_le, le_trans}
-use native.Mathlib.Numerals.{add-one}
 use native.Mathlib.Omega.{arith}
-use lib.Dec.{lit<, lit≤}
+use lib.Dec.{lit≤}
 use lib.Arith.{digits_lt}
-use lib.ListN.{length, take, drop, set, length-append, length-set}
-use lib.Seq.{take-set-lt, drop-set-lt}
-use Rattle.geometry.specs.Layout.{rects_of}
+use lib.ListN.{length, take, set, replicate, length-map, length-append}
+use lib.Seq.{take-set-lt}
+use Rattle.arrayvec.specs.ArrayVec.{ArrayVec}
+use Rattle.std.specs.Prelude.{Some, None}
+use Rattle.std.proofs.lemmas.List.{take-replicate}
+use Rattle.std.proofs.lemmas.Slice.Zip.{AllZip-long}
+use Rattle.geometry.specs.declared.Rect.{Rect}
+use Rattle.spacing.specs.declared.region.Region.{Region}
+use Rattle.spacing.specs.Regions.{IsRegionOf}
+use Rattle.spacing.specs.Sizes.{SmallKeepout}
+use Rattle.free.proofs.RegionTables.{regions_none, regions_more}
 use Rattle.tiles.specs.Tiles.{tile_index}
-use Rattle.spacing.specs.Regions.{with_region}
-use Rattle.spacing.specs.Sizes.{region_numbers}
-use Rattle.free.proofs.RegionTables.{regions_none, regions_more, regions_length}
 use Rattle.forms.specs.declared.Head.{Head}
+use Rattle.forms.specs.declared.Kind.{Kind}
 use Rattle.forms.specs.declared.Shape.{Shape}
 use Rattle.forms.specs.declared.Form.{Form}
 use Rattle.forms.specs.declared.Form.TheVariants.{Unknown, Heading, Metal, Fill, End}
 use Rattle.forms.specs.Limits.{unit_limits}
-use Rattle.forms.specs.Forms.{tiles_across, agrees, tile_count}
+use Rattle.forms.specs.Forms.{tiles_across, tile_count, GoodHead}
 use Rattle.forms.proofs.Spans.{corners}
 use Rattle.forms.proofs.Heads.{head_facts, agreement}
-use Rattle.standing.specs.declared.Near.{Near}
-use Rattle.standing.specs.declared.State.{State}
 use Rattle.standing.specs.declared.Turn.TheVariants.{Before, Shapes, Fills, Done}
+use Rattle.standing.specs.declared.near.Near.{Near}
+use Rattle.standing.specs.declared.held.Standing.TheInside.{Inside}
 use Rattle.standing.specs.Filling.{keepout_of, keepouts}
-use Rattle.standing.specs.Faults.{Standing, before_head, no_head, room_of, line_fault, stands_after}
-use Rattle.standing.specs.Held.{shapes_room, amounts_room, shapes_by, shapes_in, table_of, shapes_table, standing, ShapesKept, AmountsKept, Held, Storable, with_shape, Stored, TileIn, NearHeld, RegionsHeld, Entered}
-use Rattle.standing.proofs.Tables.{zeros, take_zeros, drop_zeros}
-use Rattle.standing.proofs.ShapeTables.{table_length, in_table, stored_table}
-use Rattle.standing.proofs.Faultless.{check_passes, NoFault, no_fault, no_shape_fault, NoFillFault, no_fill_fault}
-use Rattle.standing.proofs.Sound.{heading_turn, after_head, sound_after}
-use Rattle.standing.proofs.HeldTables.{regions_held}
+use Rattle.standing.specs.Faults.{Standing, no_head, before_head, room_of, line_fault, stands_after}
+use Rattle.standing.specs.Sound.{Sound, TileIn}
+use Rattle.standing.specs.Near.{NearHeld}
+use Rattle.standing.specs.Held.{amounts_room, shapes_by, standing_of, Held}
+use Rattle.standing.proofs.Faultless.{head_faultless, NoFault, no_fault, no_shape_fault, NoFillFault, no_fill_fault}
+use Rattle.standing.proofs.Sound.{heading_turn, after_head, sound_after, sound_start}
+use Rattle.standing.proofs.Shapes.{by_length, by_more}
 
--- a good head has no more tiles across than are allowed, so the table of amounts has room for all
-pub few_across : (h : Head) → agrees unit_limits h ≡ true → tiles_across h ≤ unit_limits.tiles
-few_across h e = (agreement unit_limits h e).few
+-- a tile's place fits the table of amounts
+pub place_small : (h : Head) (i j : ℕ) → TileIn h i j → tile_index (tiles_across h) i j < amounts_room
+place_small h i j k = lt_of_lt_of_le (digits_lt k.row k.column) (mul-le-mul k.few k.few)
 
-pub few_tiles : (h : Head) → agrees unit_limits h ≡ true → tile_count h ≤ amounts_room
-few_tiles h e = mul-le-mul (few_across h e) (few_across h e)
+module _ (a : Inside) (k : Held a) (st : Standing) (v : standing_of a ≡ st) where
+  sound : Sound st
+  sound = subst Sound v k.sound
 
--- before the head the tables are all 0
-record Empty (shapes amounts : List ℕ) : Type 0 where
-  pub shapes_zero : shapes ≡ zeros shapes_room
-  pub amounts_zero : amounts ≡ zeros amounts_room
+  -- the fields hold what stands after a line
+  held_after : (f : Form) (a' : Inside) → line_fault unit_limits st f ≡ 0 → standing_of a' ≡ stands_after st f → Sound (standing_of a')
+  held_after f a' e s = subst Sound (sym s) (sound_after st f sound e)
 
-empty_before : (s : State) (shapes regions amounts : List ℕ) → Held s shapes regions amounts → s.turn ≡ Before → Empty shapes amounts
-unfolding table_of
-empty_before s shapes regions amounts k e =
-    record {
-      shapes_zero = k.shaped.table ∙ ap shapes_table (ap (λ (st : Standing). st.shapes) empty);
-      amounts_zero = subst (λ (h : Head). drop (tile_count h) amounts ≡ zeros (amounts_room - tile_count h)) bare k.filled.beyond;
-    }
-  where
-    empty : standing s shapes amounts ≡ before_head
-    empty = k.sound.start e
+  -- ---- a head: nothing stands before it
 
-    bare : s.head ≡ no_head
-    bare = ap (λ (st : Standing). st.head) empty
+  module _ (h : Head) (e : line_fault unit_limits st (Heading h) ≡ 0) where
+    g : NoFault unit_limits st (Heading h)
+    g = no_fault unit_limits st (Heading h) e
 
--- the state and its tables hold a line's outcome where the tables are clean and what stands is what stands after the line
-entered : (s : State) (shapes regions amounts : List ℕ) (f : Form) (s' : State) (shapes' regions' amounts' : List ℕ) → Held s shapes regions amounts →
-    line_fault unit_limits (standing s shapes amounts) f ≡ 0 → standing s' shapes' amounts' ≡ stands_after (standing s shapes amounts) f →
-    ShapesKept s'.head s'.count shapes' regions' → AmountsKept s'.head amounts' → NearHeld s'.head (take (region_numbers * s'.count) regions') s'.near →
-    Entered s shapes amounts f s' shapes' regions' amounts'
-entered s shapes regions amounts f s' shapes' regions' amounts' k e same shaped filled near =
-    record {
-      stands = same;
-      held = record { shaped = shaped; filled = filled; sound = rw same (sound_after (standing s shapes amounts) f k.sound e); near = near };
-    }
+    before : a.turn ≡ Before
+    before = ap (λ (s : Standing). s.turn) v ∙ heading_turn st.turn h g.turn
 
-module _ (s : State) (shapes regions amounts : List ℕ) (k : Held s shapes regions amounts) where
-  on_heading : (h : Head) → line_fault unit_limits (standing s shapes amounts) (Heading h) ≡ 0 →
-      Entered s shapes amounts (Heading h) (record { turn = Shapes; head = h; count = 0; near = None }) shapes regions amounts
-  unfolding stands_after rects_of shapes_by table_of
-  on_heading h e =
-      entered s shapes regions amounts (Heading h) (record { turn = Shapes; head = h; count = 0; near = None }) shapes regions amounts k e
-      (ap (λ (l : List ℕ). record { turn = Shapes; head = h; shapes = []; amounts = l }) clean)
-      (record { table = z.shapes_zero; counted = refl; few = lit≤ tt; room = k.shaped.room; kept = regions_none })
-      (record {
-        room = k.filled.room;
-        tiles = few;
-        beyond = ap (drop (tile_count h)) z.amounts_zero ∙ drop_zeros (tile_count h) amounts_room;
-      })
-      tt
-    where
-      g : NoFault unit_limits (standing s shapes amounts) (Heading h)
-      g = no_fault unit_limits (standing s shapes amounts) (Heading h) e
+    none : shapes_by a.kinds.items a.rects.items ≡ []
+    none = ap (λ (s : Standing). s.shapes) (k.sound.start before)
 
-      few : tile_count h ≤ amounts_room
-      few = few_tiles h (check_passes (agrees unit_limits h) 5 0 (lit< tt) g.own).0
+    few : tiles_across h ≤ unit_limits.tiles
+    few = (agreement unit_limits h (head_faultless unit_limits h g.own)).few
 
-      z : Empty shapes amounts
-      z = empty_before s shapes regions amounts k (heading_turn s.turn h g.turn)
+    clean : take (tile_count h) a.amounts ≡ replicate (tile_count h) 0
+    clean = ap (take (tile_count h)) (k.unused before) ∙ take-replicate (tile_count h) amounts_room 0 (mul-le-mul few few)
 
-      clean : take (tile_count h) amounts ≡ zeros (tile_count h)
-      clean = ap (take (tile_count h)) z.amounts_zero ∙ take_zeros (tile_count h) amounts_room few
+    abbrev headed : Inside
+    headed =
+        record { turn = Shapes; head = h; rects = a.rects; kinds = a.kinds; regions = a.regions; amounts = a.amounts; near = None }
+
+    pub heading_stands : standing_of headed ≡ stands_after st (Heading h)
+    unfolding stands_after
+    heading_stands =
+        ap₂ (λ (ss : List Shape) (l : List ℕ). record { turn = Shapes; head = h; shapes = ss; amounts = l }) none clean
+
+    pub heading_held : Held headed
+    heading_held =
+        record {
+          kinds = k.kinds;
+          regions = rw none (rw none at k.regions);
+          across = few;
+          unused = λ q. cc;
+          near = tt;
+          sound = held_after (Heading h) headed e heading_stands;
+        }
 
   -- ---- a shape
 
-  module _ (m : Shape) (e : line_fault unit_limits (standing s shapes amounts) (Metal m) ≡ 0) where
-    abbrev before : List Shape
-    before = shapes_in s.count shapes
+  module _ (m : Shape) (e : line_fault unit_limits st (Metal m) ≡ 0) where
+    abbrev before_shape : List Shape
+    before_shape = shapes_by a.kinds.items a.rects.items
 
-    g : NoFault unit_limits (standing s shapes amounts) (Metal m)
-    g = no_fault unit_limits (standing s shapes amounts) (Metal m) e
+    good : NoFault unit_limits st (Metal m)
+    good = no_fault unit_limits st (Metal m) e
 
-    fewer : length before < unit_limits.shapes
-    fewer = (no_shape_fault unit_limits (standing s shapes amounts) m.rect g.own).room
+    counted : length st.shapes ≡ length a.rects.items
+    counted = ap (λ (s : Standing). length s.shapes) (sym v) ∙ by_length a.kinds.items a.rects.items k.kinds
 
-    -- the table with the shape is that of all shapes
-    more_table : with_shape shapes s.count m ≡ shapes_table (before ++ (m ∷ []))
-    more_table =
-        ap₂ (λ (l : List ℕ) (n : ℕ). with_shape l n m) k.shaped.table (sym k.shaped.counted) ∙ stored_table before m fewer
+    pub rects_room : length a.rects.items < unit_limits.shapes
+    rects_room = omega (arith, counted, (no_shape_fault unit_limits st m.rect good.own).room)
 
-    more_count : s.count + 1 ≡ length (before ++ (m ∷ []))
-    more_count = omega (arith, length-append before (m ∷ []), k.shaped.counted)
+    pub kinds_room : length a.kinds.items < unit_limits.shapes
+    kinds_room = omega (arith, rects_room, k.kinds)
 
-    more_shapes : shapes_in (s.count + 1) (with_shape shapes s.count m) ≡ before ++ (m ∷ [])
-    more_shapes =
-        ap₂ shapes_in more_count more_table
-        ∙ in_table (before ++ (m ∷ [])) (omega (arith, fewer, length-append before (m ∷ [])))
+    pub regions_room : length a.regions.items < unit_limits.shapes
+    regions_room =
+        omega (
+          arith,
+          rects_room,
+          AllZip-long IsRegionOf (keepouts a.head.gap before_shape) a.regions.items k.regions.each,
+          length-map before_shape (keepout_of a.head.gap),
+          by_length a.kinds.items a.rects.items k.kinds,
+        )
 
-    storable : Storable s m shapes regions
-    storable =
+    head_is : a.head ≡ st.head
+    head_is = ap (λ (s : Standing). s.head) v
+
+    pub shape_small : SmallKeepout (keepout_of a.head.gap m)
+    shape_small =
+        let c = corners unit_limits m.rect good.range in
+        let head : GoodHead st.head = sound.headed (after_head st.turn (Metal m) good.turn (lit≤ tt)) in
         record {
-          room = ap length k.shaped.table ∙ table_length before k.sound.few;
-          has_regions_room = k.shaped.room;
-          more = omega (arith, fewer, k.shaped.counted);
-          small = record {
-            left = le_trans (corners unit_limits m.rect g.range).left.most (lit≤ tt);
-            low = le_trans (corners unit_limits m.rect g.range).low.most (lit≤ tt);
-            right = le_trans (corners unit_limits m.rect g.range).right.most (lit≤ tt);
-            high = le_trans (corners unit_limits m.rect g.range).high.most (lit≤ tt);
-            narrow = le_trans ((head_facts s.head (k.sound.headed headed)).gap_most m.kind) (lit≤ tt);
-          };
+          left = le_trans c.left.most (lit≤ tt);
+          low = le_trans c.low.most (lit≤ tt);
+          right = le_trans c.right.most (lit≤ tt);
+          high = le_trans c.high.most (lit≤ tt);
+          narrow = rw head_is (le_trans ((head_facts st.head head).gap_most m.kind) (lit≤ tt));
         }
-      where
-        headed : s.turn ≡ Before → ⊥
-        headed = after_head s.turn (Metal m) g.turn (λ h q. let z : ◌≡◌ {A = ℕ} 0 1 = cc in omega arith)
 
-    abbrev regions_with : List ℕ
-    regions_with = with_region regions s.count (keepout_of s.head.gap m)
+    module _ (rects : ArrayVec Rect) (kinds : ArrayVec Kind) (regions : ArrayVec Region) (r : Region)
+        (rects_are : rects.items ≡ a.rects.items ++ (m.rect ∷ [])) (kinds_are : kinds.items ≡ a.kinds.items ++ (m.kind ∷ [])) where
+      abbrev shaped : Inside
+      shaped =
+          record { turn = Shapes; head = a.head; rects = rects; kinds = kinds; regions = regions; amounts = a.amounts; near = None }
 
-    space : region_numbers * s.count + region_numbers ≤ length regions
-    space = omega (arith, storable.more, k.shaped.room)
+      more : shapes_by kinds.items rects.items ≡ before_shape ++ (m ∷ [])
+      more = ap₂ shapes_by kinds_are rects_are ∙ by_more a.kinds.items a.rects.items m k.kinds
 
-    on_shape : Entered s shapes amounts (Metal m) (record { turn = Shapes; head = s.head; count = s.count + 1; near = None }) (with_shape shapes s.count m) regions_with amounts
-    unfolding stands_after
-    on_shape =
-        entered s shapes regions amounts (Metal m) (record { turn = Shapes; head = s.head; count = s.count + 1; near = None }) (with_shape shapes s.count m) regions_with amounts k e
-        (ap (λ (ss : List Shape). record { turn = Shapes; head = s.head; shapes = ss; amounts = take (tile_count s.head) amounts }) more_shapes)
-        (record {
-          table = more_table ∙ ap shapes_table (sym more_shapes);
-          counted = ap length more_shapes ∙ sym more_count;
-          few = omega (arith, storable.more);
-          room = regions_length regions s.count (keepout_of s.head.gap m) space ∙ k.shaped.room;
-          kept = rw (more_shapes, map-append (keepout_of s.head.gap) before (m ∷ []), add-one s.count) (regions_more regions s.count (keepout_of s.head.gap m) space (keepouts s.head.gap before) storable.small (omega (arith, storable.more)) k.shaped.kept);
-        })
-        k.filled tt
+      pub shape_stands : standing_of shaped ≡ stands_after st (Metal m)
+      unfolding stands_after
+      shape_stands =
+          ap (λ (ss : List Shape). record { turn = Shapes; head = a.head; shapes = ss; amounts = take (tile_count a.head) a.amounts }) more
+          ∙ ap (λ (s : Standing). stands_after s (Metal m)) v
 
-  -- ---- a fill and the end
+      pub shape_held : regions.items ≡ a.regions.items ++ (r ∷ []) → IsRegionOf (keepout_of a.head.gap m) r → Held shaped
+      shape_held regions_are is =
+          record {
+            kinds = omega (arith, ap length rects_are, ap length kinds_are, length-append a.rects.items (m.rect ∷ []), length-append a.kinds.items (m.kind ∷ []), k.kinds);
+            regions =
+                rw (regions_are, more, map-append (keepout_of a.head.gap) before_shape (m ∷ []))
+                (regions_more a.regions.items (keepouts a.head.gap before_shape) r (keepout_of a.head.gap m) k.regions is (omega (arith, regions_room)));
+            across = k.across;
+            unused = λ q. cc;
+            near = tt;
+            sound = held_after (Metal m) shaped e shape_stands;
+          }
 
-  fill_good : (i j p : ℕ) → line_fault unit_limits (standing s shapes amounts) (Fill i j p) ≡ 0 →
-      NoFillFault s.head (take (tile_count s.head) amounts) (room_of (standing s shapes amounts) i j) i j p
-  fill_good i j p e =
-      no_fill_fault s.head (take (tile_count s.head) amounts) (room_of (standing s shapes amounts) i j) i j p
-      (no_fault unit_limits (standing s shapes amounts) (Fill i j p) e).own
+  -- ---- a fill
 
-  on_fill : (i j p : ℕ) (near : Near) → line_fault unit_limits (standing s shapes amounts) (Fill i j p) ≡ 0 → NearHeld s.head (take (region_numbers * s.count) regions) (Some near) →
-      Entered s shapes amounts (Fill i j p) (record { turn = Fills; head = s.head; count = s.count; near = Some near }) shapes regions
-      (set amounts (tile_index (tiles_across s.head) i j) p)
+  module _ (i j p : ℕ) (e : line_fault unit_limits st (Fill i j p) ≡ 0) where
+    filled : NoFault unit_limits st (Fill i j p)
+    filled = no_fault unit_limits st (Fill i j p) e
+
+    in_layout : NoFillFault st.head st.amounts (room_of st i j) i j p
+    in_layout = no_fill_fault st.head st.amounts (room_of st i j) i j p filled.own
+
+    pub fill_head : GoodHead a.head
+    fill_head = subst GoodHead (sym (ap (λ (s : Standing). s.head) v)) (sound.headed (after_head st.turn (Fill i j p) filled.turn (lit≤ tt)))
+
+    pub fill_tile : TileIn a.head i j
+    fill_tile =
+        let h : st.head ≡ a.head = sym (ap (λ (s : Standing). s.head) v) in
+        record { few = k.across; column = rw h at in_layout.column; row = rw h at in_layout.row }
+
+    module _ (near : Near) where
+      abbrev with_fill : Inside
+      with_fill =
+          record {
+            turn = Fills;
+            head = a.head;
+            rects = a.rects;
+            kinds = a.kinds;
+            regions = a.regions;
+            amounts = set a.amounts (tile_index (tiles_across a.head) i j) p;
+            near = Some near;
+          }
+
+      pub fill_stands : standing_of with_fill ≡ stands_after st (Fill i j p)
+      unfolding stands_after
+      fill_stands =
+          ap (λ (l : List ℕ). record { turn = Fills; head = a.head; shapes = shapes_by a.kinds.items a.rects.items; amounts = l })
+          (take-set-lt (tile_count a.head) a.amounts (tile_index (tiles_across a.head) i j) p (digits_lt fill_tile.row fill_tile.column))
+          ∙ ap (λ (s : Standing). stands_after s (Fill i j p)) v
+
+      pub fill_held : NearHeld a.head a.regions.items (Some near) → Held with_fill
+      fill_held n =
+          record {
+            kinds = k.kinds;
+            regions = k.regions;
+            across = k.across;
+            unused = λ q. cc;
+            near = n;
+            sound = held_after (Fill i j p) with_fill e fill_stands;
+          }
+
+  -- ---- the end
+
+  abbrev ended : Inside
+  ended =
+      record { turn = Done; head = a.head; rects = a.rects; kinds = a.kinds; regions = a.regions; amounts = a.amounts; near = a.near }
+
+  pub end_stands : standing_of ended ≡ stands_after st End
   unfolding stands_after
-  on_fill i j p near e served =
-      entered s shapes regions amounts (Fill i j p) (record { turn = Fills; head = s.head; count = s.count; near = Some near }) shapes regions
-      (set amounts (tile_index (tiles_across s.head) i j) p) k e
-      (ap (λ (l : List ℕ). record { turn = Fills; head = s.head; shapes = shapes_in s.count shapes; amounts = l })
-      (take-set-lt (tile_count s.head) amounts (tile_index (tiles_across s.head) i j) p place))
-      k.shaped
-      (record {
-        room = length-set amounts (tile_index (tiles_across s.head) i j) p ∙ k.filled.room;
-        tiles = k.filled.tiles;
-        beyond = drop-set-lt (tile_count s.head) amounts (tile_index (tiles_across s.head) i j) p place ∙ k.filled.beyond;
-      })
-      served
-    where
-      place : tile_index (tiles_across s.head) i j < tile_count s.head
-      place = digits_lt (fill_good i j p e).row (fill_good i j p e).column
+  end_stands = ap (λ (s : Standing). stands_after s End) v
 
-  on_end : line_fault unit_limits (standing s shapes amounts) End ≡ 0 →
-      Entered s shapes amounts End (record { turn = Done; head = s.head; count = s.count; near = s.near }) shapes regions amounts
-  unfolding stands_after
-  on_end e =
-      entered s shapes regions amounts End (record { turn = Done; head = s.head; count = s.count; near = s.near }) shapes regions amounts k e refl
-      k.shaped k.filled k.near
+  pub end_held : line_fault unit_limits st End ≡ 0 → Held ended
+  end_held e =
+      record {
+        kinds = k.kinds;
+        regions = k.regions;
+        across = k.across;
+        unused = λ q. cc;
+        near = k.near;
+        sound = held_after End ended e end_stands;
+      }
 
-  -- ---- by the form of the line, as the code knows it
+-- ---- a line that is none of the spellings has a fault, and enters nothing
 
-  pub enter_unknown : (f : Form) → f ≡ Unknown → line_fault unit_limits (standing s shapes amounts) f ≡ 0 → Entered s shapes amounts f s shapes regions amounts
-  enter_unknown f q e = absurd (false≢true (no_fault unit_limits (standing s shapes amounts) Unknown (rw q at e)).spelled)
+pub none_entered : (st : Standing) (f : Form) → f ≡ Unknown → st ≡ stands_after st f
+unfolding stands_after
+none_entered st f q = rw q refl
 
-  pub enter_heading : (f : Form) (h : Head) → f ≡ Heading h → line_fault unit_limits (standing s shapes amounts) f ≡ 0 →
-      Entered s shapes amounts f (record { turn = Shapes; head = h; count = 0; near = None }) shapes regions amounts
-  enter_heading f h q e = rw q (on_heading h (rw q at e))
+-- ---- the first fields
 
-  pub shape_space : (f : Form) (m : Shape) → f ≡ Metal m → line_fault unit_limits (standing s shapes amounts) f ≡ 0 → Storable s m shapes regions
-  shape_space f m q e = storable m (rw q at e)
+module _ (h : Head) (rects : ArrayVec Rect) (kinds : ArrayVec Kind) (regions : ArrayVec Region) (head_is : h ≡ no_head) (rects_are : rects.items ≡ [])
+    (kinds_are : kinds.items ≡ []) where
+  abbrev first : Inside
+  first =
+      record { turn = Before; head = h; rects = rects; kinds = kinds; regions = regions; amounts = replicate amounts_room 0; near = None }
 
-  pub enter_shape : (f : Form) (m : Shape) (shapes' regions' : List ℕ) → f ≡ Metal m → line_fault unit_limits (standing s shapes amounts) f ≡ 0 →
-      Stored s m shapes regions shapes' regions' →
-      Entered s shapes amounts f (record { turn = Shapes; head = s.head; count = s.count + 1; near = None }) shapes' regions' amounts
-  enter_shape f m shapes' regions' q e new = rw (q, new.table, new.region) (on_shape m (rw q at e))
+  pub new_stands : standing_of first ≡ before_head
+  unfolding shapes_by
+  new_stands = rw (head_is, rects_are, kinds_are) refl
 
-  module _ (f : Form) (i j p : ℕ) (q : f ≡ Fill i j p) (e : line_fault unit_limits (standing s shapes amounts) f ≡ 0) where
-    good : NoFillFault s.head (take (tile_count s.head) amounts) (room_of (standing s shapes amounts) i j) i j p
-    good = fill_good i j p (rw q at e)
-
-    pub fill_regions : RegionsHeld s regions
-    fill_regions =
-        regions_held s shapes regions amounts k
-        (after_head s.turn (Fill i j p) (no_fault unit_limits (standing s shapes amounts) (Fill i j p) (rw q at e)).turn
-        (λ h n. let z : ◌≡◌ {A = ℕ} 0 1 = cc in omega arith))
-
-    pub fill_space : TileIn s.head i j × (tile_index (tiles_across s.head) i j < length amounts)
-    fill_space = (
-      record { few = few_across s.head fill_regions.head.agreement; column = good.column; row = good.row },
-      omega (arith, digits_lt good.row good.column, k.filled.tiles, k.filled.room),
-    )
-
-    pub fill_row_asked : RegionsHeld s regions × (j < tiles_across s.head)
-    fill_row_asked = (fill_regions, good.row)
-
-  pub enter_fill : (f : Form) (i j p : ℕ) (amounts' : List ℕ) (near : Near) → f ≡ Fill i j p → line_fault unit_limits (standing s shapes amounts) f ≡ 0 →
-      amounts' ≡ set amounts (tile_index (tiles_across s.head) i j) p → NearHeld s.head (take (region_numbers * s.count) regions) (Some near) →
-      Entered s shapes amounts f (record { turn = Fills; head = s.head; count = s.count; near = Some near }) shapes regions amounts'
-  enter_fill f i j p amounts' near q e new served = rw (q, new) (on_fill i j p near (rw q at e) served)
-
-  pub enter_end : (f : Form) → f ≡ End → line_fault unit_limits (standing s shapes amounts) f ≡ 0 →
-      Entered s shapes amounts f (record { turn = Done; head = s.head; count = s.count; near = s.near }) shapes regions amounts
-  enter_end f q e = rw q (on_end (rw q at e))
-
--- the place of a tile in its table fits the code's numbers
-pub place_small : (h : Head) (i j n : ℕ) → TileIn h i j → n ≡ tiles_across h → j * n + i < amounts_room
-place_small h i j n k e = rw e (lt_of_lt_of_le (digits_lt k.row k.column) (mul-le-mul k.few k.few))
+  pub new_held : regions.items ≡ [] → Held first
+  new_held regions_are =
+      record {
+        kinds = omega (arith, ap length rects_are, ap length kinds_are);
+        regions = rw (ap (λ (s : Standing). s.shapes) new_stands, regions_are) regions_none;
+        across = rw head_is (lit≤ tt);
+        unused = λ e. refl;
+        near = tt;
+        sound = rw new_stands sound_start;
+      }

@@ -5,11 +5,12 @@ use mathlib.Core.Bool.{true, false≢true}
 use mathlib.Core.List.{List, [], ◌∷◌, ◌++◌, map-append}
 use native.Mathlib.Decide.{ℕ_discrete}
 use native.Mathlib.Omega.{arith}
-use lib.Dec.{lit<, lit≤}
+use lib.Dec.{lit≤}
 use lib.Arith.{digits_lt, digits_div, digits_mod}
 use lib.ListN.{length, get_or, set, replicate, length-append, length-set, length-replicate}
 use lib.Seq.{get_or-set_same, get_or-set_other}
-use Rattle.geometry.specs.declared.Rect.{Rect}
+use Rattle.std.proofs.lemmas.List.{get_or-replicate}
+use Rattle.std.proofs.lemmas.List.Elements.{All-nil, All-push}
 use Rattle.geometry.specs.Layout.{Disjoint}
 use Rattle.geometry.proofs.Sharing.{shares_none}
 use Rattle.geometry.proofs.Tables.{disjoint_more}
@@ -20,48 +21,24 @@ use Rattle.forms.specs.declared.Form.TheVariants.{Unknown, Heading, Metal, Fill,
 use Rattle.forms.specs.declared.Shape.{Shape}
 use Rattle.forms.specs.Limits.{unit_limits}
 use Rattle.forms.specs.Shapes.{rectangles}
-use Rattle.forms.specs.Forms.{rect_in_range, tiles_across, agrees, fits_layout, tile_count}
+use Rattle.forms.specs.Forms.{tiles_across, tile_count}
 use Rattle.standing.specs.declared.Turn.{Turn}
-use Rattle.standing.specs.declared.Turn.TheVariants.{Before, Shapes, Fills, Done}
-use Rattle.standing.specs.Faults.{Standing, before_head, in_turn, room_of, line_fault, stands_after}
-use Rattle.standing.specs.Held.{GoodRects, Sound}
-use Rattle.standing.proofs.Faultless.{check_passes, NoFault, no_fault, NoShapeFault, no_shape_fault, NoFillFault, no_fill_fault}
-use Rattle.standing.proofs.Tables.{get_or-zeros}
+use Rattle.standing.specs.declared.Turn.TheVariants.{Before, Shapes}
+use Rattle.standing.specs.Faults.{Standing, before_head, rank_of, in_turn, room_of, line_fault, stands_after}
+use Rattle.standing.specs.Sound.{GoodRect, Sound}
+use Rattle.standing.proofs.Faultless.{head_faultless, NoFault, no_fault, NoShapeFault, no_shape_fault, NoFillFault, no_fill_fault}
 
 -- ---- the turn
 
 pub heading_turn : (t : Turn) (h : Head) → in_turn t (Heading h) ≡ true → t ≡ Before
-heading_turn Before h e = refl
-heading_turn Shapes h e = absurd (false≢true e)
-heading_turn Fills h e = absurd (false≢true e)
-heading_turn Done h e = absurd (false≢true e)
+heading_turn t h e = grind arith
 
 pub shape_turn : (t : Turn) (s : Shape) → in_turn t (Metal s) ≡ true → t ≡ Shapes
-shape_turn Before s e = absurd (false≢true e)
-shape_turn Shapes s e = refl
-shape_turn Fills s e = absurd (false≢true e)
-shape_turn Done s e = absurd (false≢true e)
+shape_turn t s e = grind arith
 
 -- what is in turn and no head comes after the head
-pub after_head : (t : Turn) (f : Form) → in_turn t f ≡ true → ((h : Head) → f ≡ Heading h → ⊥) → t ≡ Before → ⊥
-after_head Before Unknown e n b = absurd (false≢true e)
-after_head Before (Heading h) e n b = n h refl
-after_head Before (Metal s) e n b = absurd (false≢true e)
-after_head Before (Fill i j p) e n b = absurd (false≢true e)
-after_head Before End e n b = absurd (false≢true e)
-after_head Shapes f e n b = let z : ◌≡◌ {A = ℕ} 0 1 = cc in omega arith
-after_head Fills f e n b = let z : ◌≡◌ {A = ℕ} 0 1 = cc in omega arith
-after_head Done f e n b = let z : ◌≡◌ {A = ℕ} 0 1 = cc in omega arith
-
-not_before : {A : Type 0} → Shapes ≡ Before → A
-not_before e = let z : ◌≡◌ {A = ℕ} 0 1 = cc in absurd (omega arith)
-
--- ---- one more shape
-
-good_more : (h : Head) (rs : List Rect) (r : Rect) → GoodRects h rs → rect_in_range unit_limits r ≡ true → fits_layout h r ≡ true → GoodRects h (rs ++ (r ∷ []))
-unfolding GoodRects
-good_more h [] r g e f = (e, f, tt)
-good_more h (q ∷ rs) r g e f = (g.0, g.1, good_more h rs r g.2 e f)
+pub after_head : (t : Turn) (f : Form) → in_turn t f ≡ true → 2 ≤ rank_of f → t ≡ Before → ⊥
+after_head t f e n b = grind arith
 
 -- ---- one more amount
 
@@ -83,31 +60,31 @@ amount_set t l i j p u v bound e hi hj hu hv fits old = go (ℕ_discrete (v * t 
 -- ---- one more line
 
 after_heading : (st : Standing) (h : Head) → NoFault unit_limits st (Heading h) → Sound (stands_after st (Heading h))
-unfolding stands_after GoodRects Disjoint
+unfolding stands_after Disjoint
 after_heading st h g =
     record {
-      start = not_before;
-      headed = λ n. record { range = g.range; agreement = (check_passes (agrees unit_limits h) 5 0 (lit< tt) g.own).0 };
+      start = λ e. cc;
+      headed = λ n. record { range = g.range; agreement = head_faultless unit_limits h g.own };
       few = lit≤ tt;
-      good = tt;
+      good = All-nil _;
       apart = tt;
       sized = length-replicate (tile_count h) 0;
       unfilled = λ e. refl;
-      fillable = λ i j hi hj. omega (arith, get_or-zeros (tile_count h) (tile_index (tiles_across h) i j));
+      fillable = λ i j hi hj. omega (arith, get_or-replicate {A = ℕ} (tile_count h) (tile_index (tiles_across h) i j) 0 0 (digits_lt hj hi));
     }
 
 after_shape : (st : Standing) (s : Shape) → Sound st → NoFault unit_limits st (Metal s) → Sound (stands_after st (Metal s))
 unfolding stands_after
 after_shape st s k g =
     record {
-      start = not_before;
-      headed = λ n. k.headed (after_head st.turn (Metal s) g.turn (λ h e. let z : ◌≡◌ {A = ℕ} 0 1 = cc in omega arith));
+      start = λ e. cc;
+      headed = λ n. k.headed (after_head st.turn (Metal s) g.turn (lit≤ tt));
       few = omega (arith, length-append st.shapes (s ∷ []), f.room);
-      good = rw more (good_more st.head (rectangles st.shapes) s.rect k.good g.range f.fits);
+      good = rw more (All-push (GoodRect st.head) (rectangles st.shapes) s.rect k.good (record { range = g.range; fits = f.fits }));
       apart = rw more (disjoint_more (rectangles st.shapes) s.rect k.apart (shares_none (rectangles st.shapes) s.rect f.free));
       sized = k.sized;
       unfilled = λ e. none;
-      fillable = λ i j hi hj. omega (arith, ap (λ (l : List ℕ). number_at l (tiles_across st.head) i j) none, get_or-zeros (tile_count st.head) (tile_index (tiles_across st.head) i j));
+      fillable = λ i j hi hj. omega (arith, ap (λ (l : List ℕ). number_at l (tiles_across st.head) i j) none, get_or-replicate {A = ℕ} (tile_count st.head) (tile_index (tiles_across st.head) i j) 0 0 (digits_lt hj hi));
     }
   where
     f : NoShapeFault unit_limits st s.rect
@@ -123,13 +100,13 @@ after_fill : (st : Standing) (i j p : ℕ) → Sound st → NoFault unit_limits 
 unfolding stands_after
 after_fill st i j p s g =
     record {
-      start = λ e. let z : ◌≡◌ {A = ℕ} 0 1 = cc in absurd (omega arith);
-      headed = λ n. s.headed (after_head st.turn (Fill i j p) g.turn (λ h e. let z : ◌≡◌ {A = ℕ} 0 1 = cc in omega arith));
+      start = λ e. cc;
+      headed = λ n. s.headed (after_head st.turn (Fill i j p) g.turn (lit≤ tt));
       few = s.few;
       good = s.good;
       apart = s.apart;
       sized = length-set st.amounts (tile_index (tiles_across st.head) i j) p ∙ s.sized;
-      unfilled = λ e. let z : ◌≡◌ {A = ℕ} 0 1 = cc in absurd (omega arith);
+      unfilled = λ e. cc;
       fillable = λ u v hu hv.
           amount_set (tiles_across st.head) st.amounts i j p u v (room_of st)
           s.sized k.column k.row hu hv k.fits (s.fillable u v hu hv);
@@ -142,13 +119,13 @@ after_end : (st : Standing) → Sound st → NoFault unit_limits st End → Soun
 unfolding stands_after
 after_end st s g =
     record {
-      start = λ e. let z : ◌≡◌ {A = ℕ} 0 1 = cc in absurd (omega arith);
-      headed = λ n. s.headed (after_head st.turn End g.turn (λ h e. let z : ◌≡◌ {A = ℕ} 0 1 = cc in omega arith));
+      start = λ e. cc;
+      headed = λ n. s.headed (after_head st.turn End g.turn (lit≤ tt));
       few = s.few;
       good = s.good;
       apart = s.apart;
       sized = s.sized;
-      unfilled = λ e. let z : ◌≡◌ {A = ℕ} 0 1 = cc in absurd (omega arith);
+      unfilled = λ e. cc;
       fillable = s.fillable;
     }
 
@@ -163,15 +140,15 @@ pub sound_after : (st : Standing) (f : Form) → Sound st → line_fault unit_li
 sound_after st f s e = sound_next st f s (no_fault unit_limits st f e)
 
 pub sound_start : Sound before_head
-unfolding GoodRects Disjoint
+unfolding Disjoint
 sound_start =
     record {
       start = λ e. refl;
       headed = λ n. absurd (n refl);
       few = lit≤ tt;
-      good = tt;
+      good = All-nil _;
       apart = tt;
       sized = refl;
-      unfilled = λ e. let z : ◌≡◌ {A = ℕ} 0 1 = cc in absurd (omega arith);
+      unfilled = λ e. cc;
       fillable = λ i j hi hj. omega arith;
     }

@@ -1,20 +1,58 @@
-// What stands, held in a state and lent tables.
-ghost use Rattle.std.specs.Prelude.{◌≡◌, ◌<◌, length, set};
-ghost use Rattle.tiles.specs.Tiles.{tile_index};
+// What stands, held in fixed tables.
+ghost use Rattle.std.specs.Prelude.{◌≡◌};
+ghost use Rattle.geometry.specs.Layout.{Layer};
+ghost use Rattle.spacing.specs.Eligible.{fillable_area};
+ghost use Rattle.tiles.specs.Tiles.{tile_index, number_at};
+ghost use Rattle.forms.specs.declared.Form.TheVariants.{Metal, Fill};
 ghost use Rattle.forms.specs.Limits.{unit_limits};
-ghost use Rattle.forms.specs.Forms.{tiles_across};
-ghost use Rattle.standing.specs.Faults.{no_head, line_fault};
-ghost use Rattle.standing.specs.Held.{kind_number, standing, Held, TileIn, Storable, Stored, Entered};
+ghost use Rattle.forms.specs.Shapes.{rectangles};
+ghost use Rattle.forms.specs.Forms.{tiles_across, GoodHead};
+ghost use Rattle.standing.specs.declared.Turn.TheVariants.{Before};
+ghost use Rattle.standing.specs.Filling.{keepouts};
+ghost use Rattle.standing.specs.Faults.{no_head, before_head, line_fault, stands_after};
+ghost use Rattle.standing.specs.Sound.{TileIn, InRow};
 
-use crate::parts::near_row;
-use crate::rooms::CORNERS_ROOM;
-use crate::{State, Turn};
-use forms::{Form, Gap, Head, Kind, Shape, gap_for, tiles_across};
-use geometry::store_rect;
-use spacing::{Keepout, keep_out};
+use crate::Turn;
+use crate::near::{Near, near_row, part_for};
+use arrayvec::ArrayVec;
+use forms::{
+    Form, Gap, Head, Kind, MOST_SHAPES, MOST_TILES, Shape, gap_for, tile_count, tiles_across,
+};
+use geometry::Rect;
+use spacing::{Keepout, Region};
+use std::marker::Model;
+
+// How many amounts the table has room for, one to a tile.
+const AMOUNTS_ROOM: usize = (MOST_TILES * MOST_TILES) as usize;
+
+// What stands while a job file is read, as standing/specs/Faults defines it. Rectangles
+// and regions are tables of their own, since areas are formed of the ones and fillable
+// areas of the others, and kinds are told by no test.
+#[derive(Drop)]
+pub struct Standing {
+    turn: Turn,
+    head: Head,
+    rects: ArrayVec<Rect, MOST_SHAPES>,
+    kinds: ArrayVec<Kind, MOST_SHAPES>,
+    regions: ArrayVec<Region, MOST_SHAPES>,
+    amounts: [u64; AMOUNTS_ROOM],
+    near: Option<Near>,
+}
+
+impl Model for Standing {
+    ghost use Rattle.standing.specs.Faults.{Standing};
+
+    ghost Value = { Standing };
+
+    ghost use Rattle.standing.specs.Held.{standing_of, Held};
+
+    ghost view = { standing_of };
+
+    ghost invariant = { Held };
+}
 
 // Before the head.
-pub fn no_head() -> Head
+fn no_head() -> Head
     ensures { result ≡ no_head }
 {
     Head {
@@ -30,7 +68,7 @@ pub fn no_head() -> Head
 }
 
 // The place of tile (i, j) in the table of amounts.
-pub fn tile_place(h: Head, i: u64, j: u64) -> usize
+fn tile_place(h: Head, i: u64, j: u64) -> usize
     requires { TileIn h i j }
     ensures { result ≡ tile_index (tiles_across h) i j }
 {
@@ -38,97 +76,115 @@ pub fn tile_place(h: Head, i: u64, j: u64) -> usize
     (j * across + i) as usize
 }
 
-// A kind in a table.
-fn kind_number(kind: Kind) -> u64
-    ensures { result ≡ kind_number kind }
-{
-    match kind {
-        Kind::Drawn => 0,
-        Kind::Dummy => 1,
-    }
-}
-
-// Stores a shape behind those that stand, and the region that it keeps free of
-// fill.
-fn store_shape(s: State, shape: Shape, shapes: &mut [u64], regions: &mut [u64])
-    requires { Storable s shape shapes.old regions.old }
-    ensures { Stored s shape shapes.old regions.old shapes.new regions.new }
-{
-    let count = s.count;
-    let head = s.head;
-    let gap = head.gap;
-    let kind = shape.kind;
-    let rect = shape.rect;
-    store_rect(shapes, count, rect);
-    shapes[CORNERS_ROOM + count] = kind_number(kind);
-    keep_out(
-        regions,
-        count,
-        Keepout {
-            rect,
-            gap: gap_for(gap, kind),
-        },
-    );
-}
-
-// Stores the amount of tile (i, j).
-fn store_amount(amounts: &mut [u64], h: Head, i: u64, j: u64, p: u64)
-    requires tile_in { TileIn h i j }
-    requires j_in_bounds { tile_index (tiles_across h) i j < length amounts.old }
-    ensures { amounts.new ≡ set amounts.old (tile_index (tiles_across h) i j) p }
-{
-    let at = tile_place(h, i, j);
-    amounts[at] = p;
-}
-
-// Enters a good line.
-pub fn enter(
-    s: State,
-    f: Form,
-    shapes: &mut [u64],
-    regions: &mut [u64],
-    amounts: &mut [u64],
-) -> State
-    requires held { Held s shapes.old regions.old amounts.old }
-    requires f_value { line_fault unit_limits (standing s shapes.old amounts.old) f ≡ 0 }
-    ensures { Entered s shapes.old amounts.old f result shapes.new regions.new amounts.new }
-{
-    let head = s.head;
-    let count = s.count;
-    match f {
-        Form::Unknown => s,
-        Form::Heading(h) => State {
-            turn: Turn::Shapes,
-            head: h,
-            count: 0,
+impl Standing {
+    // Before the first line.
+    pub fn new() -> Self
+        ensures { result ≡ before_head }
+    {
+        Standing {
+            turn: Turn::Before,
+            head: no_head(),
+            rects: ArrayVec::new(),
+            kinds: ArrayVec::new(),
+            regions: ArrayVec::new(),
+            amounts: [0; AMOUNTS_ROOM],
             near: None,
-        },
-        Form::Metal(shape) => {
-            store_shape(s, shape, shapes, regions);
-            State {
-                turn: Turn::Shapes,
-                head,
-                count: count + 1,
-                near: None,
-            }
         }
-        Form::Fill {
-            column,
-            row,
-            amount,
-        } => {
-            store_amount(amounts, head, column, row, amount);
-            let near = Some(near_row(s, regions, row));
-            State {
-                turn: Turn::Fills,
-                head,
-                count,
-                near,
+    }
+
+    pub fn turn(&self) -> Turn
+        ensures { result ≡ self.now.turn }
+    {
+        self.turn
+    }
+
+    pub fn head(&self) -> Head
+        ensures value { result ≡ self.now.head }
+        ensures good { (self.now.turn ≡ Before → ⊥) → GoodHead self.now.head }
+    {
+        self.head
+    }
+
+    // The rectangles of all shapes.
+    pub fn rects(&self) -> &[Rect]
+        ensures value { result.now ≡ rectangles self.now.shapes }
+        ensures layer { Layer result.now }
+    {
+        self.rects.as_slice()
+    }
+
+    // The amounts of the tiles, row by row.
+    pub fn amounts(&self) -> &[u64]
+        ensures { result.now ≡ self.now.amounts }
+    {
+        let count = tile_count(self.head);
+        &self.amounts[..count]
+    }
+
+    // The amount of tile (i, j).
+    pub fn amount(&self, i: u64, j: u64) -> u64
+        requires { TileIn self.now.head i j }
+        ensures { result ≡ number_at self.now.amounts (tiles_across self.now.head) i j }
+    {
+        self.amounts[tile_place(self.head, i, j)]
+    }
+
+    // The fillable area of a box in a row of tiles.
+    pub fn fillable(&self, row: u64, b: Rect) -> u64
+        requires { InRow self.now.head row b }
+        ensures { result ≡ fillable_area (keepouts self.now.head.gap self.now.shapes) b }
+    {
+        let part = part_for(self.near, row, self.regions.len());
+        free::fillable(self.regions.as_slice(), part, b)
+    }
+
+    // A shape behind those that stand, and the region that it keeps free of fill.
+    fn add_shape(&mut self, shape: Shape)
+        requires { line_fault unit_limits self.old (Metal shape) ≡ 0 }
+        ensures { self.new ≡ stands_after self.old (Metal shape) }
+    {
+        let keepout = Keepout {
+            rect: shape.rect,
+            gap: gap_for(self.head.gap, shape.kind),
+        };
+        self.rects.push(shape.rect);
+        self.kinds.push(shape.kind);
+        self.regions.push(keepout.region());
+        self.near = None;
+        self.turn = Turn::Shapes;
+    }
+
+    // A fill, and the part of the table of regions for its row.
+    fn add_fill(&mut self, column: u64, row: u64, amount: u64)
+        requires { line_fault unit_limits self.old (Fill column row amount) ≡ 0 }
+        ensures { self.new ≡ stands_after self.old (Fill column row amount) }
+    {
+        let at = tile_place(self.head, column, row);
+        self.amounts[at] = amount;
+        let near = near_row(self.near, self.head, self.regions.as_slice(), row);
+        self.near = Some(near);
+        self.turn = Turn::Fills;
+    }
+
+    // Enters a good line.
+    pub fn enter(&mut self, f: Form)
+        requires { line_fault unit_limits self.old f ≡ 0 }
+        ensures { self.new ≡ stands_after self.old f }
+    {
+        match f {
+            Form::Unknown => {}
+            Form::Heading(h) => {
+                self.head = h;
+                self.near = None;
+                self.turn = Turn::Shapes;
             }
+            Form::Metal(shape) => self.add_shape(shape),
+            Form::Fill {
+                column,
+                row,
+                amount,
+            } => self.add_fill(column, row, amount),
+            Form::End => self.turn = Turn::Done,
         }
-        Form::End => State {
-            turn: Turn::Done,
-            ..s
-        },
     }
 }

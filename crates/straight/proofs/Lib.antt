@@ -1,5 +1,4 @@
 pub mod StraightLines
 pub mod LineCounts
 pub mod FlatBoxes
-pub mod Seams
 pub mod RowCounts

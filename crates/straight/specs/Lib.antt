@@ -1,1 +1,2 @@
 pub mod Flatness
+pub mod Sides

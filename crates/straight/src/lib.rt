@@ -2,11 +2,13 @@
 // cut, and the positions of the box below a threshold.
 #![tactic(auto)]
 
-mod lines;
-mod values;
+ghost use Rattle.geometry.specs.Cuts.{FullBox};
+ghost use Rattle.straight.specs.Flatness.{Flat, SmallCorners};
 
-pub use lines::below_flat;
-pub use values::{add_corners, corners_before, corners_behind, least_corner, most_corner, seam_of};
+use geometry::Rect;
+
+mod lines;
+mod patches;
 
 // The values of what runs straight along both axes of a box, at its corners; the far
 // ones are those of the first column and row that are no longer in it.
@@ -18,9 +20,19 @@ pub struct Corners {
     pub northeast: u64,
 }
 
-// The values where a cut meets the sides of a box: below and above, or left and right.
+// A box, and what runs straight along both of its axes.
 #[derive(Clone, Copy)]
-pub struct Seam {
-    pub first: u64,
-    pub second: u64,
+pub struct Patch {
+    pub extent: Rect,
+    pub corners: Corners,
+    pub ghost full: { FullBox extent },
+    pub ghost small: { SmallCorners corners },
+    pub ghost flat: { Flat extent corners },
+}
+
+// The two parts of a patch that is cut.
+#[derive(Clone, Copy)]
+pub struct Parts {
+    pub before: Patch,
+    pub behind: Patch,
 }

@@ -1,154 +1,108 @@
--- Strips: what the loop over the places writes, that the sides which it writes rise, and that what is added up along a strip is the covered area.
-use Prim.Native.Nat.{ℕ, zero, suc, ◌+◌, ◌-◌, ◌*◌, ◌/◌, ◌≤◌, ◌<◌, max}
-use mathlib.Core.Path.{◌≡◌, refl, sym, ap, ap₂, ◌∙◌, subst, subst₂}
+-- Strips: that the sides which rows hold of sorted rectangles rise, and that what is added up along a strip is the covered area.
+use Prim.Native.Nat.{ℕ, ◌+◌, ◌-◌, ◌*◌, ◌≤◌, ◌<◌, max}
+use mathlib.Core.Path.{◌≡◌, refl, sym, ap, ap₂, ◌∙◌}
 use mathlib.Core.Logic.{◌⊎◌, inl, inr}
-use mathlib.Core.List.{List, [], ◌∷◌, ◌++◌}
-use native.Mathlib.Numerals.{add-one}
+use mathlib.Core.List.{List, [], ◌∷◌, map}
 use native.Mathlib.Omega.{arith}
-use lib.ListN.{length, get_or, set, take, drop, length-append, drop_of_length-le}
-use lib.Seq.{drop-cons, length-take-le}
+use lib.Dec.{ltb}
+use lib.ListN.{length, get_or, get_or-map}
 use borrow.Author.Tests.{lt-ltb, le-ltb}
+use Rattle.std.specs.Prelude.{All, sum_by, IsPermutation}
+use Rattle.std.specs.List.Sorted.{IsNonDecreasingBy}
+use Rattle.std.proofs.Math.Logic.{∥∥₁_elim}
+use Rattle.std.proofs.Math.Bridge.{le_prop}
+use Rattle.std.proofs.Math.Nat.{ℕ_set}
+use Rattle.std.proofs.lemmas.List.{length-map}
+use Rattle.std.proofs.lemmas.List.Elements.{All-filter, All-map}
+use Rattle.std.proofs.lemmas.List.Kept.{IsNonDecreasingBy-filter}
+use Rattle.std.proofs.lemmas.List.Recursion.{is_sum_by}
+use Rattle.std.proofs.lemmas.List.Sorted.{IsNonDecreasingBy-from_default, length_permutation, All-permutation, sum_by-IsPermutation}
+use Rattle.std.proofs.lemmas.List.Sums.{length-filter, count_by-le-length, sum_by-cons}
 use Rattle.laws.proofs.Tests.{le_or_lt}
-use Rattle.buffers.specs.Written.{Written, Front}
-use Rattle.buffers.proofs.Writing.{two_stored, none_stored}
-use Rattle.buffers.proofs.Fronts.{FrontSoFar, front_moves, front_ends, front_fits, front_behind, front_first, front_second}
 use Rattle.geometry.specs.declared.Rect.{Rect}
-use Rattle.geometry.specs.Sizes.{widest}
+use Rattle.geometry.specs.Sizes.{SmallSides}
 use Rattle.geometry.specs.Count.{one_if, rect_sum}
-use Rattle.geometry.specs.Layout.{covered, covered_area, rects_of, Layer}
+use Rattle.geometry.specs.Layout.{covered, covered_area, Layer}
 use Rattle.geometry.specs.Overlaps.{common}
 use Rattle.geometry.proofs.Counting.{rect_cong, rect_plus, box_cut_columns}
 use Rattle.geometry.proofs.Overlaps.{overlap_is_area}
-use Rattle.sweep.specs.declared.Lengths.{Lengths}
 use Rattle.sweep.specs.declared.Side.{Side}
 use Rattle.sweep.specs.declared.Side.TheVariants.{Low, High}
-use Rattle.sweep.specs.Order.{column, column_on, places_by}
-use Rattle.sweep.specs.Strips.{sides_room, strip_room, side_part, rows_on, sides_at, strip_sides, side_sum, ramps, Rising, Sides, StripOf, StripIn}
-use Rattle.sweep.proofs.Sums.{rising_weaken}
-use Rattle.sweep.proofs.Sorted.{Ascending, place_sum, places_sum, ordered_ascends, ordered_length}
+use Rattle.sweep.specs.declared.Upright.{Upright}
+use Rattle.sweep.specs.declared.sorted.Sorted.{Sorted}
+use Rattle.sweep.specs.Order.{column, InOrder}
+use Rattle.sweep.specs.Strips.{side_in, strip_sides, side_sum, ramps, SmallUpright, Sides, StripOf}
 
--- ---- one side, where it has rows and where it has none
+-- ---- the sides that rows hold of sorted rectangles
 
-module _ (v h : ℕ) where
-  part_full : 0 < h → side_part v h ≡ v ∷ h ∷ []
-  part_full p = rw (lt-ltb 0 h p, side_part)
+rect_total : (f : Rect → ℕ) (rs : List Rect) → rect_sum rs f ≡ sum_by f rs
+unfolding rect_sum
+rect_total f rs = is_sum_by (λ (rs : List Rect). rect_sum rs f) f refl (λ r rs. refl) rs
 
-  part_none : h ≤ 0 → side_part v h ≡ []
-  part_none p = rw (le-ltb 0 h p, side_part)
+side_small : (side : Side) (y1 y2 : ℕ) (r : Rect) → SmallSides r → SmallUpright (side_in side y1 y2 r)
+side_small Low y1 y2 r h = record { column = h.left; rows = omega (arith, h.high) }
+side_small High y1 y2 r h = record { column = omega (arith, h.left, h.right); rows = omega (arith, h.high) }
 
-  part_either : (P : List ℕ → Type 0) → (0 < h → P (v ∷ h ∷ [])) → (h ≤ 0 → P []) → P (side_part v h)
-  part_either P full none = go (le_or_lt h 0)
+module _ (rects sorted : List Rect) (side : Side) (o : InOrder side rects sorted) where
+  pub sorted_count : length sorted ≡ length rects
+  sorted_count = ∥∥₁_elim o.all (ℕ_set (length sorted) (length rects)) (λ p. length_permutation rects sorted p)
+
+  sorted_sum : (f : Rect → ℕ) → sum_by f sorted ≡ rect_sum rects f
+  sorted_sum f = ∥∥₁_elim o.all (ℕ_set (sum_by f sorted) (sum_by f rects)) (λ p. sum_by-IsPermutation f rects sorted p) ∙ sym (rect_total f rects)
+
+  sorted_small : All SmallSides rects → All SmallSides sorted
+  sorted_small z k d h = record {
+    left = ∥∥₁_elim o.all le_prop (λ p. (each p).left);
+    right = ∥∥₁_elim o.all le_prop (λ p. (each p).right);
+    low = ∥∥₁_elim o.all le_prop (λ p. (each p).low);
+    high = ∥∥₁_elim o.all le_prop (λ p. (each p).high);
+  }
     where
-      go : (h ≤ 0) ⊎ (0 < h) → P (side_part v h)
-      go (inl p) = subst P (sym (part_none p)) (none p)
-      go (inr p) = subst P (sym (part_full p)) (full p)
+      each : IsPermutation rects sorted → SmallSides (get_or sorted k d)
+      each p = All-permutation SmallSides rects sorted p z k d h
 
-  part_short : length (side_part v h) ≤ 2
-  part_short = part_either (λ l. length l ≤ 2) (λ p. omega arith) (λ p. omega arith)
+  module _ (y1 y2 : ℕ) where
+    abbrev all_sides : List Upright
+    all_sides = map (side_in side y1 y2) sorted
 
-  -- what the code leaves
-  module _ (l : List ℕ) (at : ℕ) where
-    pub side_written : 0 < h → at + 2 ≤ length l → Written l at (side_part v h) (set (set l at v) (at + 1) h) (at + 2)
-    side_written p fits = rw (part_full p) (two_stored l at v h fits)
-
-    pub no_side_written : h ≤ 0 → Written l at (side_part v h) l at
-    no_side_written p = rw (part_none p) (none_stored l at)
-
-side_known : (l : List ℕ) (at v h a b : ℕ) (m : List ℕ) (r : ℕ) → a ≡ v → b ≡ h → Written l at (side_part a b) m r → Written l at (side_part v h) m r
-side_known l at v h a b m r e f w = subst₂ (λ (a b : ℕ). Written l at (side_part a b) m r) e f w
-
--- ---- the loop over the places
-
-module _ (table : List ℕ) (side : Side) (y1 y2 : ℕ) (places before out : List ℕ) (at i : ℕ)
-    (s : FrontSoFar (sides_at table side y1 y2) 2 places before out at i) (room : 2 * length places ≤ length before) where
-  pub sides_room_lem : i < length places → at + 2 ≤ length out
-  sides_room_lem h = omega (arith, s.behind, s.same)
-
-  pub sides_next : (m : List ℕ) (v h r : ℕ) → i < length places → v ≡ column_on table side (get_or places i 0) → h ≡ rows_on table y1 y2 (get_or places i 0) →
-      Written out at (side_part v h) m r → FrontSoFar (sides_at table side y1 y2) 2 places before m r (i + 1)
-  unfolding sides_at
-  sides_next m v h r more column rows p =
-      front_moves (sides_at table side y1 y2) 2 places before out at i s room 1 _ m r (omega arith)
-      (part_short (column_on table side (get_or places i 0)) (rows_on table y1 y2 (get_or places i 0)))
-      (ap (sides_at table side y1 y2) (drop-cons places i 0 more ∙ ap (λ (k : ℕ). get_or places i 0 ∷ drop k places) (sym (add-one i))))
-      (side_known out at _ _ v h m r column rows p)
-
-  pub sides_end : length places ≤ i → Front before (sides_at table side y1 y2 places) out at
-  unfolding sides_at
-  sides_end h = front_ends (sides_at table side y1 y2) 2 places before out at i s room (ap (sides_at table side y1 y2) (drop_of_length-le places {i = i} h))
-
-pub sides_known : (table : List ℕ) (side : Side) (y1 y2 : ℕ) (places before after : List ℕ) (r : ℕ) → places ≡ places_by table side →
-    Front before (sides_at table side y1 y2 places) after r → Front before (strip_sides table side y1 y2) after r
-sides_known table side y1 y2 places before after r e f = subst (λ (l : List ℕ). Front before (sides_at table side y1 y2 l) after r) e f
-
--- ---- what a list of sides has of the rectangles
-
-module _ (t : List ℕ) (side : Side) (y1 y2 : ℕ) where
-  sides_rise : (b : ℕ) (l : List ℕ) → Ascending t (column_on t side) b l → Rising b (sides_at t side y1 y2 l)
-  unfolding Rising Ascending sides_at
-  sides_rise b [] r = tt
-  sides_rise b (p ∷ l) r =
-      part_either (column_on t side p) (rows_on t y1 y2 p) (λ q. Rising b (q ++ sides_at t side y1 y2 l))
-      (λ h. (r.0, sides_rise (column_on t side p) l r.2))
-      (λ h. rising_weaken b (column_on t side p) (sides_at t side y1 y2 l) r.0 (sides_rise (column_on t side p) l r.2))
-
-  sides_few : (l : List ℕ) → length (sides_at t side y1 y2 l) ≤ 2 * length l
-  unfolding sides_at
-  sides_few [] = omega arith
-  sides_few (p ∷ l) =
-      omega (
-        arith,
-        length-append (side_part (column_on t side p) (rows_on t y1 y2 p)) (sides_at t side y1 y2 l),
-        part_short (column_on t side p) (rows_on t y1 y2 p),
-        sides_few l,
-      )
-
-  two_numbers : (k v h : ℕ) (s : List ℕ) → v ≤ k → h ≤ k → ((i : ℕ) → get_or s i 0 ≤ k) → (i : ℕ) → get_or (v ∷ h ∷ s) i 0 ≤ k
-  two_numbers k v h s p q r zero = p
-  two_numbers k v h s p q r (suc zero) = q
-  two_numbers k v h s p q r (suc (suc i)) = r i
-
-  column_small : (side : Side) (k p : ℕ) → ((i : ℕ) → get_or t i 0 ≤ k) → column_on t side p ≤ k
-  column_small Low k p h = h p
-  column_small High k p h = omega (arith, h p, h (p + 2))
-
-  sides_small : (k : ℕ) → ((i : ℕ) → get_or t i 0 ≤ k) → (l : List ℕ) → (i : ℕ) → get_or (sides_at t side y1 y2 l) i 0 ≤ k
-  unfolding sides_at
-  sides_small k h [] = λ i. omega arith
-  sides_small k h (p ∷ l) =
-      part_either (column_on t side p) (rows_on t y1 y2 p) (λ q. (i : ℕ) → get_or (q ++ sides_at t side y1 y2 l) i 0 ≤ k)
-      (λ _. two_numbers k (column_on t side p) (rows_on t y1 y2 p) (sides_at t side y1 y2 l) (column_small side k p h) (omega (arith, h (p + 3)))
-      (sides_small k h l))
-      (λ _. sides_small k h l)
-
-  pub strip_sides_lem : Layer t → Sides (strip_sides t side y1 y2)
-  strip_sides_lem d =
-      record {
-        few = omega (arith, sides_few (places_by t side), ordered_length (column_on t side) (length t / 4), d.few);
-        small = sides_small widest d.small (places_by t side);
-        rising = sides_rise 0 (places_by t side) (ordered_ascends t (column_on t side) (length t / 4) (omega arith));
-      }
-
-  -- a sum over the sides is one over the rectangles, if a side without rows adds nothing
-  module _ (g : ℕ → ℕ → ℕ) (nothing : (v : ℕ) → g v 0 ≡ 0) where
-    part_sum : (v h : ℕ) (s : List ℕ) → side_sum g (side_part v h ++ s) ≡ g v h + side_sum g s
-    unfolding side_sum
-    part_sum v h s =
-        part_either v h (λ l. side_sum g (l ++ s) ≡ g v h + side_sum g s) (λ p. refl)
-        (λ p. omega (arith, nothing v, ap (g v) (none p)))
+    pub strip_sides_lem : Layer rects → Sides (strip_sides sorted side y1 y2)
+    strip_sides_lem d = record {
+      few = omega (arith, length-filter (λ (u : Upright). ltb 0 u.rows) all_sides, count_by-le-length (λ (u : Upright). ltb 0 u.rows) all_sides, length-map sorted (side_in side y1 y2), sorted_count, d.few);
+      small = All-filter (λ u. ltb 0 u.rows) SmallUpright all_sides (All-map SmallUpright (side_in side y1 y2) sorted (λ k e h. side_small side y1 y2 (get_or sorted k e) (sorted_small d.small k e h)));
+      rising = IsNonDecreasingBy-filter (λ u. u.column) (λ u. ltb 0 u.rows) all_sides (mapped sorted o.rises);
+    }
       where
-        none : h ≤ 0 → h ≡ 0
-        none p = omega arith
+        mapped : (rs : List Rect) → IsNonDecreasingBy (column side) rs → IsNonDecreasingBy (λ (u : Upright). u.column) (map (side_in side y1 y2) rs)
+        mapped rs n =
+            IsNonDecreasingBy-from_default (λ (u : Upright). u.column) (map (side_in side y1 y2) rs) (side_in side y1 y2 none)
+            (λ i j p q. rw (get_or-map (side_in side y1 y2) rs i none, get_or-map (side_in side y1 y2) rs j none) (n i j none p (omega (arith, length-map rs (side_in side y1 y2)))))
+          where
+            none : Rect
+            none = record { x1 = 0; y1 = 0; x2 = 0; y2 = 0 }
 
-    sides_sum : (l : List ℕ) → side_sum g (sides_at t side y1 y2 l) ≡ place_sum (λ p. g (column_on t side p) (rows_on t y1 y2 p)) l
-    unfolding sides_at side_sum place_sum
-    sides_sum [] = refl
-    sides_sum (p ∷ l) =
-        part_sum (column_on t side p) (rows_on t y1 y2 p) (sides_at t side y1 y2 l)
-        ∙ ap (λ (n : ℕ). g (column_on t side p) (rows_on t y1 y2 p) + n) (sides_sum l)
+    -- a sum over the sides is one over the rectangles, if a side without rows adds nothing
+    module _ (g : ℕ → ℕ → ℕ) (nothing : (v : ℕ) → g v 0 ≡ 0) where
+      abbrev on_rect : Rect → ℕ
+      on_rect r = g (column side r) (common r.y1 r.y2 y1 y2)
 
-    pub strip_sum_lem : side_sum g (strip_sides t side y1 y2) ≡ rect_sum (rects_of t) (λ r. g (column side r) (common r.y1 r.y2 y1 y2))
-    strip_sum_lem = sides_sum (places_by t side) ∙ places_sum t side (λ r. g (column side r) (common r.y1 r.y2 y1 y2))
+      sides_sum : (rs : List Rect) → side_sum g (strip_sides rs side y1 y2) ≡ sum_by on_rect rs
+      sides_sum [] = refl
+      sides_sum (r ∷ rs) = go (le_or_lt (common r.y1 r.y2 y1 y2) 0) (sides_sum rs)
+        where
+          go : (common r.y1 r.y2 y1 y2 ≤ 0) ⊎ (0 < common r.y1 r.y2 y1 y2) → side_sum g (strip_sides rs side y1 y2) ≡ sum_by on_rect rs →
+              side_sum g (strip_sides (r ∷ rs) side y1 y2) ≡ sum_by on_rect (r ∷ rs)
+          go (inl p) ih =
+              rw (le-ltb 0 (common r.y1 r.y2 y1 y2) p)
+              (omega (arith, sum_by-cons on_rect r rs, ih, nothing (column side r), ap (g (column side r)) no_rows))
+            where
+              no_rows : common r.y1 r.y2 y1 y2 ≡ 0
+              no_rows = omega (arith, p)
+          go (inr p) ih =
+              rw (lt-ltb 0 (common r.y1 r.y2 y1 y2) p)
+              (omega (arith, sum_by-cons on_rect r rs, sum_by-cons (λ (u : Upright). g u.column u.rows) (side_in side y1 y2 r) (strip_sides rs side y1 y2), ih))
+
+      pub strip_sum_lem : side_sum g (strip_sides sorted side y1 y2) ≡ rect_sum rects (λ r. g (column side r) (common r.y1 r.y2 y1 y2))
+      strip_sum_lem = sides_sum sorted ∙ sorted_sum on_rect
 
 -- ---- ramps and areas
 
@@ -156,78 +110,59 @@ module _ (t : List ℕ) (side : Side) (y1 y2 : ℕ) where
 one_rect : (a b h x : ℕ) → h * (x - a) ≡ common a b 0 x * h + h * (x - max a b)
 one_rect a b h x = let e : x - a ≡ common a b 0 x + (x - max a b) = omega arith in omega (arith, ap (λ (k : ℕ). h * k) e)
 
-module _ (t : List ℕ) (y1 y2 : ℕ) where
+module _ (m : Sorted) (y1 y2 : ℕ) where
   abbrev between : (x1 x2 : ℕ) → Rect
   between x1 x2 = record { x1 = x1; y1 = y1; x2 = x2; y2 = y2 }
 
-  abbrev lows : List ℕ
-  lows = strip_sides t Low y1 y2
+  abbrev rects : List Rect
+  rects = m.rects.now
 
-  abbrev highs : List ℕ
-  highs = strip_sides t High y1 y2
+  abbrev low_list : List Upright
+  low_list = strip_sides m.lows.items Low y1 y2
 
-  ramps_of : (side : Side) (x : ℕ) → ramps (strip_sides t side y1 y2) x ≡ rect_sum (rects_of t) (λ r. common r.y1 r.y2 y1 y2 * (x - column side r))
-  ramps_of side x = strip_sum_lem t side y1 y2 (λ v h. h * (x - v)) (λ v. omega arith)
+  abbrev high_list : List Upright
+  high_list = strip_sides m.highs.items High y1 y2
+
+  ramps_of : (side : Side) (sorted : List Rect) → InOrder side rects sorted → (x : ℕ) →
+      ramps (strip_sides sorted side y1 y2) x ≡ rect_sum rects (λ r. common r.y1 r.y2 y1 y2 * (x - column side r))
+  ramps_of side sorted o x = strip_sum_lem rects sorted side o y1 y2 (λ v h. h * (x - v)) (λ v. omega arith)
 
   -- the covered area left of a column
-  left_area : Layer t → (x : ℕ) → ramps lows x ≡ covered_area (rects_of t) (between 0 x) + ramps highs x
-  left_area d x =
-      ramps_of Low x
-      ∙ rect_cong (rects_of t) _ _ (λ r. one_rect r.x1 r.x2 (common r.y1 r.y2 y1 y2) x)
-      ∙ rect_plus (rects_of t) _ _
-      ∙ ap₂ ◌+◌ (sym (overlap_is_area (rects_of t) (between 0 x) d.apart)) (sym (ramps_of High x))
+  left_area : (x : ℕ) → ramps low_list x ≡ covered_area rects (between 0 x) + ramps high_list x
+  left_area x =
+      ramps_of Low m.lows.items m.low x
+      ∙ rect_cong rects _ _ (λ r. one_rect r.x1 r.x2 (common r.y1 r.y2 y1 y2) x)
+      ∙ rect_plus rects _ _
+      ∙ ap₂ ◌+◌ (sym (overlap_is_area rects (between 0 x) m.layer.apart)) (sym (ramps_of High m.highs.items m.high x))
 
   -- and between two columns
-  pub strip_area_lem : Layer t → (x1 x2 : ℕ) → x1 ≤ x2 →
-      ramps lows x2 + ramps highs x1 ≡ covered_area (rects_of t) (between x1 x2) + (ramps lows x1 + ramps highs x2)
-  strip_area_lem d x1 x2 h =
+  strip_area_lem : (x1 x2 : ℕ) → x1 ≤ x2 →
+      ramps low_list x2 + ramps high_list x1 ≡ covered_area rects (between x1 x2) + (ramps low_list x1 + ramps high_list x2)
+  strip_area_lem x1 x2 h =
       omega (
         arith,
-        left_area d x1,
-        left_area d x2,
-        box_cut_columns 0 y1 x2 y2 x1 (λ x y. one_if (covered (rects_of t) x y)) (omega arith) h,
+        left_area x1,
+        left_area x2,
+        box_cut_columns 0 y1 x2 y2 x1 (λ x y. one_if (covered rects x y)) (omega arith) h,
       )
 
--- so what the rows hold is a strip of theirs
-strip_of : (t : List ℕ) (y1 y2 : ℕ) → Layer t → StripOf t y1 y2 (strip_sides t Low y1 y2) (strip_sides t High y1 y2)
-strip_of t y1 y2 d =
-    record {
-      low = refl;
-      high = refl;
-      strip =
-          record {
-            low = strip_sides_lem t Low y1 y2 d;
-            high = strip_sides_lem t High y1 y2 d;
-            grows = λ x1 x2 h. omega (arith, strip_area_lem t y1 y2 d x1 x2 h);
-          };
-      areas = λ x1 x2 h. omega (arith, strip_area_lem t y1 y2 d x1 x2 h);
-    }
+  -- so what the rows hold is a strip
+  pub strip_of : (lows highs : List Upright) → lows ≡ low_list → highs ≡ high_list → StripOf m y1 y2 lows highs
+  strip_of lows highs e f = rw (e, f) record {
+    low = refl;
+    high = refl;
+    strip = record {
+      low = strip_sides_lem rects m.lows.items Low m.low y1 y2 m.layer;
+      high = strip_sides_lem rects m.highs.items High m.high y1 y2 m.layer;
+      grows = λ x1 x2 h. omega (arith, strip_area_lem x1 x2 h);
+    };
+    areas = λ x1 x2 h. omega (arith, strip_area_lem x1 x2 h);
+  }
 
--- written at the front of a buffer that has room for both kinds of sides
-module _ (t : List ℕ) (side : Side) (y1 y2 : ℕ) (places before after : List ℕ) (r : ℕ) (p : Front before (sides_at t side y1 y2 places) after r)
-    (few : 2 * length places ≤ sides_room) where
-  pub sides_count : r ≤ sides_room
-  sides_count = omega (arith, p.count, sides_few t side y1 y2 places)
-
-  pub room_behind : (n : ℕ) → n ≤ sides_room → strip_room ≤ length before → n ≤ length (take (length after - r) (drop r after))
-  room_behind n h room = omega (arith, sides_count, front_behind before (sides_at t side y1 y2 places) after r p)
-
-module _ (t : List ℕ) (y1 y2 : ℕ) (before after : List ℕ) (r : Lengths) (d : Layer t) (e : r.low ≡ length (lows t y1 y2))
-    (p : Front before (lows t y1 y2 ++ highs t y1 y2) after r.both) where
-  pub strip_lent : StripIn t y1 y2 after r
-  strip_lent =
-      record {
-        order = omega (arith, e, p.count, length-append (lows t y1 y2) (highs t y1 y2));
-        within = front_fits before (lows t y1 y2 ++ highs t y1 y2) after r.both p;
-        lent =
-            subst₂ (StripOf t y1 y2) (sym (front_first before (lows t y1 y2) (highs t y1 y2) after r.low r.both p e))
-            (sym (front_second before (lows t y1 y2) (highs t y1 y2) after r.low r.both p e)) (strip_of t y1 y2 d);
-      }
-
--- what slicing it asks
-module _ (t : List ℕ) (y1 y2 : ℕ) (buffer : List ℕ) (r : Lengths) (s : StripIn t y1 y2 buffer r) where
-  pub low_count : r.low ≡ length (take r.low buffer)
-  low_count = sym (length-take-le r.low buffer (omega (arith, s.order, s.within)))
-
-  pub low_small : r.low ≤ sides_room
-  low_small = omega (arith, low_count, s.lent.strip.low.few)
+-- the strip of no rows has no sides
+pub no_rows : (sorted : List Rect) (side : Side) (l : List Upright) → l ≡ [] → l ≡ strip_sides sorted side 0 0
+no_rows sorted side l e = e ∙ go sorted
+  where
+    go : (rs : List Rect) → [] ≡ strip_sides rs side 0 0
+    go [] = refl
+    go (r ∷ rs) = rw (le-ltb 0 (common r.y1 r.y2 0 0) (omega arith)) (go rs)

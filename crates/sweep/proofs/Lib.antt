@@ -1,4 +1,3 @@
 pub mod Sums
 pub mod Moving
-pub mod Sorted
 pub mod Covered

@@ -1,3 +1,4 @@
 pub mod Order
 pub mod Strips
 pub mod Cursors
+pub mod Sweeps

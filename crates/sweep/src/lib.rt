@@ -8,23 +8,20 @@
 #![tactic(auto)]
 
 mod cursors;
-mod ordering;
+mod frames;
+mod sorted;
 mod strips;
+mod sweeps;
 
-ghost use Rattle.std.specs.Prelude.{◌*◌, ◌/◌, ◌≤◌, ◌≡◌, ◌++◌, length};
-ghost use Rattle.buffers.specs.Written.{Front};
-ghost use Rattle.sweep.specs.declared.Side.TheVariants.{Low, High};
-ghost use Rattle.sweep.specs.Order.{side_order};
-ghost use Rattle.sweep.specs.Strips.{strip_room, strip_sides, Strip, Swept, StripIn};
-ghost use Rattle.sweep.specs.Cursors.{start_frame, frame_at, TrueArea, Behind, ColumnsInOrder};
+ghost use Rattle.std.specs.Prelude.{◌≡◌};
+ghost use Rattle.sweep.specs.Order.{column};
 
-use geometry::MOST_RECTS;
-
-// Room for the places of the low sides and those of the high sides, and for the
-// sides of a strip, of both kinds, two numbers each.
-pub const ORDER_ROOM: usize = 2 * MOST_RECTS;
-
-pub const STRIP_ROOM: usize = 4 * MOST_RECTS;
+pub use cursors::{Cursor, Edges};
+pub use frames::{Frame, move_to, start_frame};
+use geometry::Rect;
+pub use sorted::Sorted;
+pub use strips::Strip;
+pub use sweeps::Sweep;
 
 // The upright sides of a rectangle.
 #[derive(Clone, Copy)]
@@ -33,111 +30,22 @@ pub enum Side {
     High,
 }
 
-// Where a sum over the sides of a strip stands, at some column: how many numbers
-// of the list are of sides left of it, the sum of their rows and the sum of rows ×
-// column, which are carried along; and the sum of their ramps, which these give.
-#[derive(Clone, Copy)]
-pub struct Cursor {
-    pub passed: usize,
+// A side of a strip: its column, and how many of the strip's rows it has.
+#[derive(Clone, Copy, Default)]
+pub struct Upright {
+    pub column: u64,
     pub rows: u64,
-    pub moment: u64,
-    pub ramps: u64,
 }
 
-// The cursors over one list of sides at both edges of a box.
-#[derive(Clone, Copy)]
-pub struct Edges {
-    pub left: Cursor,
-    pub right: Cursor,
-}
-
-// A box in a strip, from the column `left` to before `right`: its covered area,
-// and the cursors over low and over high sides at its edges.
-#[derive(Clone, Copy)]
-pub struct Frame {
-    pub left: u64,
-    pub right: u64,
-    pub area: u64,
-    pub low: Edges,
-    pub high: Edges,
-}
-
-// How many numbers a strip has: those of its low sides, and of both kinds.
-#[derive(Clone, Copy)]
-pub struct Lengths {
-    pub low: usize,
-    pub both: usize,
-}
-
-// Writes the places of the rectangles in a table at the front of a buffer, in
-// rising order of their low sides, then in rising order of their high sides.
-pub fn order_sides(rects: &[u64], out: &mut [usize]) -> usize
-    requires { 2 * (length rects.now / 4) ≤ length out.old }
-    ensures { Front out.old (side_order rects.now) out.new result }
-{
-    let low = ordering::order_by(rects, Side::Low, out);
-    let high = ordering::order_by(rects, Side::High, &mut out[low..]);
-    low + high
-}
-
-// Writes the low sides that the rows y1 to y2 hold at the front of a buffer, and
-// the high sides right behind them: a strip, along which a box's area is the true
-// one.
-pub fn strip(rects: &[u64], order: &[usize], y1: u64, y2: u64, out: &mut [u64]) -> Lengths
-    requires swept { Swept rects.now order.now }
-    requires strip_room_in_bounds { strip_room ≤ length out.old }
-    ensures front { Front out.old (strip_sides rects.now Low y1 y2 ++ strip_sides rects.now High y1 y2) out.new result.both }
-    ensures strip_in { StripIn rects.now y1 y2 out.new result }
-{
-    let half = rects.len() / 4;
-    let low = strips::sides_of(rects, &order[..half], Side::Low, y1, y2, out);
-    let high = strips::sides_of(rects, &order[half..], Side::High, y1, y2, &mut out[low..]);
-    Lengths {
-        low,
-        both: low + high,
-    }
-}
-
-// The empty box at column 0, from which every sweep begins.
-pub fn start_frame() -> Frame
-    ensures { result ≡ start_frame }
-{
-    let none = Cursor {
-        passed: 0,
-        rows: 0,
-        moment: 0,
-        ramps: 0,
-    };
-    let edges = Edges {
-        left: none,
-        right: none,
-    };
-    Frame {
-        left: 0,
-        right: 0,
-        area: 0,
-        low: edges,
-        high: edges,
-    }
-}
-
-// Moves a box to the right, each of its edges by itself: from the true area at one
-// place, which `Behind` asks for, to the true area at the next. Only the sides that
-// its edges pass are added.
-pub fn move_to(lows: &[u64], highs: &[u64], from: Frame, left: u64, right: u64) -> Frame
-    requires strip { Strip lows.now highs.now }
-    requires behind { Behind lows.now highs.now from left right }
-    requires columns_in_order { ColumnsInOrder left right }
-    ensures value { result ≡ frame_at lows.now highs.now left right }
-    ensures true_area { TrueArea lows.now highs.now result }
-{
-    let low = cursors::move_edges(lows, from.low, left, right);
-    let high = cursors::move_edges(highs, from.high, left, right);
-    Frame {
-        left,
-        right,
-        area: low.right.ramps + high.left.ramps - (low.left.ramps + high.right.ramps),
-        low,
-        high,
+impl Side {
+    // The column of this side of a rectangle. One that has no columns has both of
+    // its sides in the same one.
+    pub(crate) fn column(self, r: Rect) -> u64
+        ensures { result ≡ column self r }
+    {
+        match self {
+            Side::Low => r.x1,
+            Side::High => r.x1.max(r.x2),
+        }
     }
 }

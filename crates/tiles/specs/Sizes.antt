@@ -1,9 +1,7 @@
 -- What 64 bits ask of a caller: no side past 2^20, and no amount above its tile's area. A buyer need not read it: no contract of the unit's
 -- public functions names it, and every accepted job has it.
-use Rattle.std.specs.Prelude.{ℕ, suc, ◌+◌, ◌*◌, ◌≤◌, ◌<◌, ◌≡◌, List, length, get_or}
-use Rattle.geometry.specs.Sizes.{widest, largest}
-use Rattle.geometry.specs.Layout.{Layer}
-use Rattle.sweep.specs.Strips.{strip_sum}
+use Rattle.std.specs.Prelude.{ℕ, ◌*◌, ◌≤◌, ◌≡◌, List, length, get_or}
+use Rattle.geometry.specs.Sizes.{widest}
 use Rattle.tiles.specs.declared.Plan.{Plan}
 
 -- tiles across a layout, and the numbers of a table with one for each
@@ -17,18 +15,9 @@ tiles_room = most_across * most_across
 abbrev pub heaviest : ℕ
 heaviest = 1125899906842624
 
--- a layout whose loads are formed: its rectangles, and an amount for each of its tiles, at most `most_across` across
-pub record Tiled (rects amounts : List ℕ) (plan : Plan) : Type 0 where
-  pub layer : Layer rects
+-- a layout whose loads are formed: an amount for each of its tiles, at most `most_across` across
+pub record Tiled (amounts : List ℕ) (plan : Plan) : Type 0 where
   pub few : plan.across ≤ most_across
   pub table : length amounts ≡ plan.across * plan.across
   pub room : (i : ℕ) → get_or amounts i 0 ≤ plan.side * plan.side
-  pub layout : plan.across * plan.side ≤ widest
-
--- a row of such tiles, by its strip: 64 bits hold each load
-pub record RowTiled (lows highs amounts : List ℕ) (plan : Plan) (j : ℕ) : Type 0 where
-  pub few : plan.across ≤ most_across
-  pub row : j < plan.across
-  pub table : length amounts ≡ plan.across * plan.across
-  pub light : (i : ℕ) → i < plan.across → strip_sum lows highs (i * plan.side) (suc i * plan.side) + get_or amounts (j * plan.across + i) 0 ≤ 2 * largest
   pub layout : plan.across * plan.side ≤ widest

@@ -4,11 +4,10 @@
 mod corners;
 mod tiling;
 
-pub use corners::{sum_rows, tiles_load};
-pub use tiling::set_loads;
+pub use corners::Corners;
+pub use tiling::tile_loads;
 
-// How many tiles may lie across a layout, and the numbers of a table with one for
-// each.
+// How many tiles may lie across a layout, and how many there may be.
 const MOST_ACROSS: usize = 64;
 
 pub const TILES_ROOM: usize = MOST_ACROSS * MOST_ACROSS;

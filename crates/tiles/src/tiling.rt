@@ -1,49 +1,43 @@
 // The loads of all tiles, one row of tiles at a time.
-ghost use Rattle.std.specs.Prelude.{suc, ◌*◌, ◌≤◌, length};
-ghost use Rattle.geometry.specs.Layout.{rects_of};
-ghost use Rattle.sweep.specs.Strips.{Strip, Swept};
-ghost use Rattle.tiles.specs.Sizes.{Tiled, RowTiled};
-ghost use Rattle.tiles.specs.Sums.{load_of, load_along, Filled};
+ghost use Rattle.std.specs.Prelude.{suc, ◌*◌};
+ghost use Rattle.tiles.specs.Sizes.{Tiled};
+ghost use Rattle.tiles.specs.Sums.{Tabled, TileRow, load_of};
 
-use crate::Plan;
-use sweep::STRIP_ROOM;
+use crate::{Plan, TILES_ROOM};
+use arrayvec::ArrayVec;
+use sweep::{Sorted, Strip, Sweep};
 
-// Writes the loads of the tiles of row j, by its strip.
-fn set_row(lows: &[u64], highs: &[u64], amounts: &[u64], plan: Plan, j: u64, out: &mut [u64])
-    requires strip { Strip lows.now highs.now }
-    requires row_tiled { RowTiled lows.now highs.now amounts.now plan j }
-    requires across_in_bounds { plan.across * plan.across ≤ length out.old }
-    ensures { Filled (load_along lows.now highs.now amounts.now plan j) out.old out.new (j * plan.across) (suc j * plan.across) }
+// Adds the loads of the tiles of row j, by its strip, to those of the rows below.
+fn push_loads(
+    strip: &Strip,
+    amounts: &[u64],
+    plan: Plan,
+    j: u64,
+    loads: &mut ArrayVec<u64, TILES_ROOM>,
+)
+    requires tiled { Tiled amounts.now plan }
+    requires tile_row { TileRow strip.now plan j }
+    requires below { Tabled (load_of strip.now.sorted.now.rects.now amounts.now plan) (j * plan.across) loads.old.items }
+    ensures { Tabled (load_of strip.now.sorted.now.rects.now amounts.now plan) (suc j * plan.across) loads.new.items }
 {
-    let side = plan.side;
-    let first = j * plan.across;
-    let mut frame = sweep::start_frame();
-    let mut i: u64 = 0;
-    while i < plan.across {
-        frame = sweep::move_to(lows, highs, frame, i * side, (i + 1) * side);
-        let t = (first + i) as usize;
-        out[t] = frame.area + amounts[t];
-        i += 1;
+    let mut sweep = Sweep::start(strip);
+    for i in 0..plan.across {
+        sweep.move_to(i * plan.side, (i + 1) * plan.side);
+        let amount = amounts[(j * plan.across + i) as usize];
+        loads.push(sweep.frame.area + amount);
     }
 }
 
-// Writes the load of each tile at the front of a table, row by row.
-pub fn set_loads(rects: &[u64], order: &[usize], amounts: &[u64], plan: Plan, out: &mut [u64])
-    requires tiled { Tiled rects.now amounts.now plan }
-    requires swept { Swept rects.now order.now }
-    requires across_in_bounds { plan.across * plan.across ≤ length out.old }
-    ensures { Filled (load_of (rects_of rects.now) amounts.now plan) out.old out.new 0 (plan.across * plan.across) }
+// The load of each tile, row by row.
+pub fn tile_loads(sorted: &Sorted, amounts: &[u64], plan: Plan) -> ArrayVec<u64, TILES_ROOM>
+    requires { Tiled amounts.now plan }
+    ensures { Tabled (load_of sorted.now.rects.now amounts.now plan) (plan.across * plan.across) result.items }
 {
-    let mut sides = [0u64; STRIP_ROOM];
-    let mut j: u64 = 0;
-    while j < plan.across {
-        let y1 = j * plan.side;
-        let y2 = y1 + plan.side;
-        let lengths = sweep::strip(rects, order, y1, y2, &mut sides);
-        let low = lengths.low;
-        let both = lengths.both;
-        let strip = &sides[..];
-        set_row(&strip[..low], &strip[low..both], amounts, plan, j, out);
-        j += 1;
+    let mut loads = ArrayVec::new();
+    let mut strip = Strip::new(sorted);
+    for j in 0..plan.across {
+        strip.set_rows(j * plan.side, (j + 1) * plan.side);
+        push_loads(&strip, amounts, plan, j, &mut loads);
     }
+    loads
 }

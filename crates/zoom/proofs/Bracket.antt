@@ -32,7 +32,8 @@ use Rattle.levels.specs.Levels.{starts_on, far_window, far_area, best_start, lev
 use Rattle.geometry.specs.Sizes.{widest}
 use Rattle.levels.specs.Sizes.{LevelSmall}
 use Rattle.levels.specs.Grid.{AtStart}
-use Rattle.levels.proofs.Folds.{no_better_trans, replaced_stays, replaced_area, rows_are, rows_see}
+use Rattle.levels.specs.Laws.{no_better_trans, replaced_stays}
+use Rattle.levels.proofs.Folds.{replaced_area, rows_are, rows_see}
 use Rattle.levels.proofs.LevelWindows.{Placed, start_placed, level_at_start, level_best, level_bounds, far_narrows, placed_small, level_small}
 use Rattle.zoom.proofs.Steps.{step_halves, step_positive}
 use Rattle.levels.proofs.Starts.{at_start, start_stays}

@@ -13,7 +13,7 @@ use Rattle.geometry.proofs.Extremes.{step_skip, bounded}
 use Rattle.geometry.specs.Positions.{window_area}
 use Rattle.zoom.specs.Run.{level_step, level_at}
 use Rattle.levels.specs.Levels.{far_window, far_area}
-use Rattle.levels.proofs.Folds.{no_better_trans}
+use Rattle.levels.specs.Laws.{no_better_trans}
 use Rattle.levels.proofs.Starts.{Nested, nested_no_better, window_within}
 use Rattle.zoom.proofs.Bracket.{named_no_worse}
 

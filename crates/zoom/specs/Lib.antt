@@ -1,3 +1,2 @@
 pub mod Run
 pub mod Sizes
-pub mod Next

@@ -1,11 +1,10 @@
 -- What 64 bits ask of a caller, and the numbers that they come from. A buyer need not read it: the definition of the run has no bounds, and every
 -- accepted job has what is asked here.
 use Rattle.std.specs.Prelude.{ℕ, ◌≤◌, ◌≡◌, List}
+use Rattle.geometry.specs.declared.Rect.{Rect}
 use Rattle.geometry.specs.declared.Spot.{Spot}
 use Rattle.geometry.specs.declared.Sense.{Sense}
 use Rattle.geometry.specs.Sizes.{widest, largest}
-use Rattle.geometry.specs.Layout.{rects_of}
-use Rattle.sweep.specs.Strips.{Swept}
 use Rattle.extremes.specs.Exact.{extreme}
 use Rattle.zoom.specs.declared.Asked.{Asked}
 use Rattle.levels.specs.declared.Level.{Level}
@@ -15,14 +14,13 @@ use Rattle.levels.specs.Sizes.{LevelSmall}
 abbrev pub most_accuracy : ℕ
 most_accuracy = 1000
 
--- a quick run: rectangles and the order of their sides, what is asked, and the exact run's window
-pub record Runnable (s : Sense) (rects order : List ℕ) (a : Asked) (m : Spot) : Type 0 where
-  pub swept : Swept rects order
+-- a quick run: rectangles, what is asked, and the exact run's window
+pub record Runnable (s : Sense) (rects : List Rect) (a : Asked) (m : Spot) : Type 0 where
   pub some_window : 1 ≤ a.window
   pub window_fits : a.window ≤ a.size
   pub small : a.size ≤ widest
   pub accurate : a.accuracy ≤ most_accuracy
-  pub extreme_is : m ≡ extreme s (rects_of rects) a.size a.window
+  pub extreme_is : m ≡ extreme s rects a.size a.window
 
 -- a density: the window's side, floor and ceiling
 pub record Measurable (w f c : ℕ) : Type 0 where

@@ -1,92 +1,85 @@
-// How deep a run goes, and what follows a level.
+// How deep a run goes, and when it ends.
 ghost use Rattle.std.specs.Prelude.{◌+◌, ◌*◌, ◌^◌, ◌≤◌, ◌<◌, ◌≡◌, leb};
-ghost use Rattle.zoom.specs.Run.{last_level, low_end, high_end, is_met};
+ghost use Rattle.std.specs.Option.{unwrap_or};
+ghost use Rattle.zoom.specs.declared.Quick.{Quick};
+ghost use Rattle.zoom.specs.Run.{last_level, low_end, high_end, is_met, after_level, exact_end};
 ghost use Rattle.zoom.specs.Sizes.{most_accuracy, Testable};
-ghost use Rattle.zoom.specs.Next.{next_after};
 
-use crate::{Asked, End, Next, Quick};
+use crate::{Asked, End, Quick};
 use geometry::{Sense, Spot};
 use levels::Level;
 
 // How often the window side can be halved, at most 4 times.
-pub(crate) fn last_level(w: u64) -> u64
-    ensures { result ≡ last_level w }
+pub(crate) fn last_level(window: u64) -> u64
+    ensures { result ≡ last_level window }
 {
-    let zeros = u64::trailing_zeros(w) as u64;
-    if zeros < 4 { zeros } else { 4 }
+    u64::from(window.trailing_zeros().min(4))
 }
 
-fn low_end(sense: Sense, level: Level) -> u64
-    ensures { result ≡ low_end sense level }
+// The lower and the upper end of a level's bracket.
+fn ends(sense: Sense, level: Level) -> (u64, u64)
+    ensures low { result.0 ≡ low_end sense level }
+    ensures high { result.1 ≡ high_end sense level }
 {
     match sense {
-        Sense::Greatest => level.named.area,
-        Sense::Least => level.limit,
+        Sense::Greatest => (level.named.area, level.limit),
+        Sense::Least => (level.limit, level.named.area),
     }
 }
 
-fn high_end(sense: Sense, level: Level) -> u64
-    ensures { result ≡ high_end sense level }
-{
-    match sense {
-        Sense::Greatest => level.limit,
-        Sense::Least => level.named.area,
-    }
-}
-
-// Whether the upper end of a bracket is near enough to the lower one for accuracy e. A
+// Whether the upper end of a bracket is near enough to the lower one for an accuracy. A
 // lower end of 0 has nothing near but itself. 64 bits hold either end times either number,
 // so that a test with the ends exchanged is wrong by what it says alone.
-fn is_close(e: u64, low: u64, high: u64) -> bool
-    requires accurate { e ≤ most_accuracy }
-    requires low_small { (1000 * low < 2 ^ 64) × ((1000 + 2 * e) * low < 2 ^ 64) }
-    requires high_small { (1000 * high < 2 ^ 64) × ((1000 + 2 * e) * high < 2 ^ 64) }
-    ensures { result ≡ leb (1000 * high) ((1000 + 2 * e) * low) }
+fn is_close(accuracy: u64, low: u64, high: u64) -> bool
+    requires accurate { accuracy ≤ most_accuracy }
+    requires low_small { (1000 * low < 2 ^ 64) × ((1000 + 2 * accuracy) * low < 2 ^ 64) }
+    requires high_small { (1000 * high < 2 ^ 64) × ((1000 + 2 * accuracy) * high < 2 ^ 64) }
+    ensures { result ≡ leb (1000 * high) ((1000 + 2 * accuracy) * low) }
 {
-    1000 * high <= (1000 + 2 * e) * low
+    1000 * high <= (1000 + 2 * accuracy) * low
 }
 
-fn is_met(sense: Sense, e: u64, level: Level) -> bool
-    requires { Testable e level }
-    ensures { result ≡ is_met sense e level }
+fn is_met(sense: Sense, accuracy: u64, level: Level) -> bool
+    requires { Testable accuracy level }
+    ensures { result ≡ is_met sense accuracy level }
 {
-    let low = low_end(sense, level);
-    let high = high_end(sense, level);
-    is_close(e, low, high)
+    let (low, high) = ends(sense, level);
+    is_close(accuracy, low, high)
 }
 
-// What follows level j, where z is the last level and m the exact run's window.
-pub(crate) fn next_after(sense: Sense, asked: Asked, z: u64, j: u64, this: Level, m: Spot) -> Next
+// The answer of a run that is over after level j.
+pub(crate) fn over(sense: Sense, asked: Asked, j: u64, this: Level) -> Option<Quick>
     requires testable { Testable asked.accuracy this }
     requires j_bound { j ≤ 4 }
-    ensures { result ≡ next_after sense asked.accuracy asked.levels z j this m }
+    ensures { (next : Quick) → after_level sense asked.accuracy asked.levels j this next ≡ unwrap_or result next }
 {
-    if is_met(sense, asked.accuracy, this) {
-        return Next::Ended(Quick {
-            end: End::Met,
-            done: j + 1,
-            last: this,
-        });
-    }
-    if asked.levels <= j + 1 {
-        return Next::Ended(Quick {
-            end: End::Stopped,
-            done: j + 1,
-            last: this,
-        });
-    }
-    if z <= j {
-        let named = geometry::better_of(sense, this.named, m);
-        let last = Level {
-            named,
+    let end = if is_met(sense, asked.accuracy, this) {
+        End::Met
+    } else if asked.levels <= j + 1 {
+        End::Stopped
+    } else {
+        return None;
+    };
+    Some(Quick {
+        end,
+        done: j + 1,
+        last: this,
+    })
+}
+
+// The answer of the exact level after level j, where `before` is the window named so
+// far and m the exact run's.
+pub(crate) fn exact_end(sense: Sense, j: u64, before: Spot, m: Spot) -> Quick
+    requires { j ≤ 4 }
+    ensures { result ≡ exact_end sense j before m }
+{
+    Quick {
+        end: End::Exact,
+        done: j + 2,
+        last: Level {
+            named: geometry::better_of(sense, before, m),
             limit: m.area,
             kept: 0,
-        };
-        return Next::Ended(Quick {
-            end: End::Exact,
-            done: j + 2,
-            last,
-        });
+        },
     }
-    Next::Deeper
 }

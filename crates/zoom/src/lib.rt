@@ -3,15 +3,15 @@
 
 mod ending;
 
-ghost use Rattle.std.specs.Prelude.{◌≡◌, ◌≤◌, ◌++◌, drop, length, replicate};
-ghost use Rattle.geometry.specs.Layout.{rects_of};
+ghost use Rattle.std.specs.Prelude.{◌≡◌, length, replicate, false};
 ghost use Rattle.levels.specs.Sizes.{flags_room};
 ghost use Rattle.zoom.specs.Run.{quick_run, density};
 ghost use Rattle.zoom.specs.Sizes.{Runnable, Measurable};
 
-use ending::{last_level, next_after};
+use ending::{exact_end, last_level, over};
 use geometry::{Sense, Spot};
-use levels::{Grid, Level, MOST_FLAGS, Pass, flag_count, search_level, starts_on};
+use levels::{Flags, Grid, Level, MOST_FLAGS, flag_count, search_level};
+use sweep::Sorted;
 
 // What is asked of a quick run: the layout's side N, the window's side W, the
 // accuracy E and the levels allowed, V.
@@ -40,83 +40,57 @@ pub struct Quick {
     pub last: Level,
 }
 
-// What follows a level: the answer of a run that is over, or a deeper level.
-#[derive(Clone, Copy)]
-enum Next {
-    Ended(Quick),
-    Deeper,
-}
-
 // The quick run for an extreme. The exact run's window m comes in, so that the
 // exact level does not search again.
-pub fn quick_run(sense: Sense, rects: &[u64], order: &[usize], asked: Asked, m: Spot) -> Quick
-    requires { Runnable sense rects.now order.now asked m }
-    ensures { result ≡ quick_run sense (rects_of rects.now) asked.size asked.window asked.accuracy asked.levels }
+pub fn quick_run(sense: Sense, sorted: &Sorted<'_>, asked: Asked, m: Spot) -> Quick
+    requires { Runnable sense sorted.now.rects.now asked m }
+    ensures { result ≡ quick_run sense sorted.now.rects.now asked.size asked.window asked.accuracy asked.levels }
 {
-    let mut old = [0u8; MOST_FLAGS];
-    let mut new = [0u8; MOST_FLAGS];
-    run_levels(sense, rects, order, asked, m, &mut old, &mut new)
+    let mut old = [false; MOST_FLAGS];
+    let mut new = [false; MOST_FLAGS];
+    run_levels(sense, sorted, asked, m, &mut old, &mut new)
 }
 
 // Its levels. `old` has the flags of the level before, none at first, and `new` gets
 // those of this one.
 fn run_levels(
     sense: Sense,
-    rects: &[u64],
-    order: &[usize],
+    sorted: &Sorted<'_>,
     asked: Asked,
     m: Spot,
-    old: &mut [u8],
-    new: &mut [u8],
+    old: &mut [bool],
+    new: &mut [bool],
 ) -> Quick
-    requires runnable { Runnable sense rects.now order.now asked m }
-    requires value { (old.old ≡ replicate flags_room 0) × (new.old ≡ replicate flags_room 0) }
-    ensures { result ≡ quick_run sense (rects_of rects.now) asked.size asked.window asked.accuracy asked.levels }
+    requires runnable { Runnable sense sorted.now.rects.now asked m }
+    requires unflagged { old.old ≡ replicate flags_room false }
+    requires room { length new.old ≡ flags_room }
+    ensures { result ≡ quick_run sense sorted.now.rects.now asked.size asked.window asked.accuracy asked.levels }
 {
-    let n = asked.size;
-    let w = asked.window;
-    let z = last_level(w);
-    let mut before = extremes::first_window(rects, w);
-    let mut stride: u64 = 0;
-    let mut t = w;
-    let mut j: u64 = 0;
-    loop {
-        let starts = starts_on(n, w, t);
-        let g = Grid {
-            sense,
-            pass: Pass::Standard,
-            n,
-            w,
-            t,
-            starts,
-            stride,
-        };
-        let this = search_level(rects, order, old, new, g, before);
-        let next = next_after(sense, asked, z, j, this, m);
-        if let Next::Ended(answer) = next {
+    let last = last_level(asked.window);
+    let mut before = extremes::first_window(sorted.rects, asked.window);
+    let mut grid = Grid::new(sense, asked.size, asked.window, asked.window);
+    let mut stride = 0;
+    for j in 0..last {
+        let flags = Flags { table: old, stride };
+        let this = search_level(sorted, flags, new, grid, before);
+        if let Some(answer) = over(sense, asked, j, this) {
             return answer;
         }
-        let used = flag_count(starts);
-        copy_front(&new[..used], old);
+        let used = flag_count(grid.starts);
+        old[..used].copy_from_slice(&new[..used]);
         before = this.named;
-        stride = starts;
-        t = t / 2;
-        j += 1;
+        stride = grid.starts;
+        grid = Grid::new(sense, asked.size, asked.window, grid.step / 2);
     }
-}
-
-// Copies bytes to the front of others.
-fn copy_front(from: &[u8], to: &mut [u8])
-    requires { length from.now ≤ length to.old }
-    ensures { to.new ≡ from.now ++ drop (length from.now) to.old }
-{
-    to[..from.len()].copy_from_slice(from);
+    let flags = Flags { table: old, stride };
+    let this = search_level(sorted, flags, new, grid, before);
+    over(sense, asked, last, this).unwrap_or(exact_end(sense, last, this.named, m))
 }
 
 // The density of a bracket, in ten-thousandths, rounded.
-pub fn density(w: u64, f: u64, c: u64) -> u64
-    requires { Measurable w f c }
-    ensures { result ≡ density w f c }
+pub fn density(window: u64, floor: u64, ceiling: u64) -> u64
+    requires { Measurable window floor ceiling }
+    ensures { result ≡ density window floor ceiling }
 {
-    rounding::rounded(10000 * (f + c), 2 * w * w)
+    rounding::rounded(10000 * (floor + ceiling), 2 * window * window)
 }

@@ -1,6 +1,11 @@
--- `free::part_near` meets its contract: what is before the part and what is behind it may be left out. Assumes nothing.
-use Rattle.free.proofs.NearParts.{part_serves}
+use Rattle.free.proofs.NearParts.{part_serves, none_serves}
 use Rattle.free.proofs.part_near.Goals as goal
 
-pub returns : goal.returns
-returns c = search part_serves
+pub returns-in-Some-Some : goal.returns-in-Some-Some
+returns-in-Some-Some c = part_serves _ _ _ _ c.in-Some-Some.ensures c.in-Some-Some.ensures'
+
+pub returns-in_default : goal.returns-in_default
+returns-in_default c = none_serves _ _ c.in_default.ensures'
+
+pub returns-in_default-2 : goal.returns-in_default-2
+returns-in_default-2 c = none_serves _ _ (rw c.in_default.is-0 at c.first_near.ensures)

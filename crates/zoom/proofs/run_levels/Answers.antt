@@ -1,93 +1,77 @@
--- `zoom::run_levels` meets its contract. The loop's invariant: the run from level j on is the whole run's answer, and after the window that
--- stands comes level j. The measure is the number of levels left. Assumes nothing.
-use Prim.Native.Nat.{ℕ, ◌-◌, ◌≤◌}
-use mathlib.Core.Path.{refl, sym, ap, ◌∙◌}
-use native.Mathlib.Nat.{div-le_self}
+-- `zoom::run_levels` meets its contract. Assumes nothing.
+use Prim.Native.Nat.{◌≤◌, ◌<◌}
+use mathlib.Core.Path.{sym, ap, ◌∙◌}
+use mathlib.Core.List.{◌++◌}
 use native.Mathlib.Omega.{arith}
-use lib.ListN.{length, length-replicate}
+use lib.ListN.{length, drop, length-append, length-drop}
 use lib.Seq.{length-take-le}
-use Rattle.geometry.specs.Layout.{rects_of}
-use Rattle.levels.specs.Sizes.{flags_room}
-use Rattle.zoom.proofs.Zooming.{run_begins, run_step, run_answers, run_goes_on, run_small, run_deep}
+use Rattle.zoom.specs.Run.{last_level}
+use Rattle.zoom.proofs.Zooming.{run_begins, run_start, run_spares, run_small, run_on, run_last, some_half, run_goes_on}
 use Rattle.zoom.proofs.run_levels.Goals as goal
 
-pub loop-answer-init : goal.loop-answer-init
-loop-answer-init c =
-    let a = c.args in
-    let z = c.last_level-z in
-    run_begins a.sense (rects_of a.rects.now) a.asked.size a.asked.window a.asked.accuracy a.asked.levels z.result a.old.now
-    a.new.now c.first_window-before.result z.ensures c.first_window-before.ensures c.requires.value.0 c.requires.value.1
-
-pub starts_on-starts-requires : goal.starts_on-starts-requires
-starts_on-starts-requires c =
-    let p = c.requires.runnable in
-    record { small = p.small; inside = p.window_fits; some_step = (run_step _ _ _ _ _ _ _ _ _ _ _ _ _ c.loop-answer.invariant p.some_window).0 }
+pub loop-j-init : goal.loop-j-init
+loop-j-init c =
+    let grid = c.new-grid.ensures in
+    run_begins _ _ _ _ _ _ _ _ _ c.first_window-before.ensures c.requires.unflagged grid.sense grid.size grid.window grid.step
 
 pub search_level-this-requires : goal.search_level-this-requires
-search_level-this-requires c =
-    let p = c.requires.runnable in
-    let so_far = c.loop-answer.invariant in
-    let step = run_step _ _ _ _ _ _ _ _ _ _ _ _ _ so_far p.some_window in record {
-      passable = record {
-        swept = p.swept;
-        sized = record { small = p.small; inside = p.window_fits; some_step = step.0; step_fits = step.1; count = c.starts_on-starts.ensures; few_above = so_far.few };
-        spare = so_far.spare;
-      };
-      at_start = so_far.start;
-      pass_value = refl;
-    }
+search_level-this-requires c = record { passable = run_spares c.loop-j.invariant; at_start = run_start c.loop-j.invariant }
 
-pub next_after-next-requires : goal.next_after-next-requires
-next_after-next-requires c =
-    let p = c.requires.runnable in
-    let so_far = c.loop-answer.invariant in
-    let level = c.search_level-this in record {
-      testable = record {
-        accurate = p.accurate;
-        small = run_small _ _ _ _ _ _ _ _ _ _ _ _ _ so_far p.some_window level.result p.window_fits p.small level.ensures.value;
-      };
-      j_bound = run_deep _ _ _ _ _ _ _ _ _ _ _ _ _ so_far p.some_window;
-    }
+pub search_level-this-requires-2 : goal.search_level-this-requires-2
+search_level-this-requires-2 c = record { passable = run_spares c.loop-j.invariant; at_start = run_start c.loop-j.invariant }
 
-pub shape_of-old-in-Ended : goal.shape_of-old-in-Ended
-shape_of-old-in-Ended c = c.loop-answer.invariant.old_size ∙ sym (ap length c.requires.value.0 ∙ length-replicate {A = ℕ} flags_room 0)
+pub over-requires-clause-testable : goal.over-requires-clause-testable
+over-requires-clause-testable c =
+    record { accurate = c.requires.runnable.accurate; small = run_small c.loop-j.invariant _ c.search_level-this.ensures.value }
 
-pub shape_of-new-in-Ended : goal.shape_of-new-in-Ended
-shape_of-new-in-Ended c = c.search_level-this.auto.new ∙ c.loop-answer.invariant.new_size
-    ∙ sym (ap length c.requires.value.1 ∙ length-replicate {A = ℕ} flags_room 0)
+pub over-requires-2-clause-testable : goal.over-requires-2-clause-testable
+over-requires-2-clause-testable c =
+    record { accurate = c.requires.runnable.accurate; small = run_small c.loop-j.invariant _ c.search_level-this-2.ensures.value }
 
-pub returns-in-Ended : goal.returns-in-Ended
-returns-in-Ended c =
-    let so_far = c.loop-answer.invariant in
+pub returns-in-Some : goal.returns-in-Some
+returns-in-Some c =
+    sym (c.in-Some.ensures _)
+    ∙ run_on c.loop-j.invariant _ c.search_level-this.ensures.value (omega (arith, c.loop-j-test.true, c.last_level-last.ensures))
+
+pub returns : goal.returns
+returns c =
+    c.unwrap_or.ensures
+    ∙ sym (c.over-2.ensures c.exact_end.result)
+    ∙ run_last c.loop-j.invariant _ c.args.m _ _ c.search_level-this-2.ensures.value c.requires.runnable.extreme_is c.last_level-last.ensures
+    c.loop-j-test.false c.exact_end.ensures
+
+-- no more flags are in use than the tables have
+pub slice_bounds-copy_from_slice-end-in-loop-j-3 : goal.slice_bounds-copy_from_slice-end-in-loop-j-3
+slice_bounds-copy_from_slice-end-in-loop-j-3 c =
+    sym (length-take-le _ _ (omega (arith, c.flag_count-used.ensures, c.search_level-this.auto.new, c.loop-j.auto.new, c.requires.room)))
+
+pub copy_from_slice-requires : goal.copy_from_slice-requires
+copy_from_slice-requires c =
+    length-take-le _ _ (omega (arith, c.flag_count-used.ensures, c.loop-j.invariant.size))
+    ∙ sym (length-take-le _ _ (omega (arith, c.flag_count-used.ensures, c.search_level-this.auto.new, c.loop-j.auto.new, c.requires.room)))
+
+pub new-grid-requires-in-loop-j-clause-some_step : goal.new-grid-requires-in-loop-j-clause-some_step
+new-grid-requires-in-loop-j-clause-some_step c =
+    omega (arith, some_half c.loop-j.invariant (omega (arith, c.loop-j-test.true, c.last_level-last.ensures)))
+
+pub loop-j-preserved : goal.loop-j-preserved
+loop-j-preserved c =
+    let at = c.loop-j.invariant in
     let level = c.search_level-this in
-    let next = c.next_after-next in
-    run_answers _ _ _ _ _ _ _ _ _ _ _ _ _ so_far c.requires.runnable.some_window level.result c.args.m next.result _ level.ensures.value
-    c.requires.runnable.extreme_is next.ensures c.in-Ended.is
-
-pub flag_count-used-requires : goal.flag_count-used-requires
-flag_count-used-requires c = omega (arith, c.requires.runnable.small, c.starts_on-starts.ensures, div-le_self (c.args.asked.size - c.args.asked.window) c.loop-answer.t)
-
--- no more flags are in use than the table has
-pub copy_front-requires : goal.copy_front-requires
-copy_front-requires c =
-    let fit : c.flag_count-used.result ≤ length c.search_level-this.new.new =
-    omega (arith, c.flag_count-used.ensures, c.search_level-this.auto.new, c.loop-answer.invariant.new_size) in
-    omega (arith, length-take-le _ _ fit, c.flag_count-used.ensures, c.loop-answer.invariant.old_size)
-
-pub overflow_add-j : goal.overflow_add-j
-overflow_add-j c = omega (arith, run_deep _ _ _ _ _ _ _ _ _ _ _ _ _ c.loop-answer.invariant c.requires.runnable.some_window)
-
-pub loop-answer-preserved : goal.loop-answer-preserved
-loop-answer-preserved c =
-    let p = c.requires.runnable in
-    let so_far = c.loop-answer.invariant in
-    let level = c.search_level-this in
-    let next = c.next_after-next in
-    run_goes_on _ _ _ _ _ _ _ _ _ _ _ _ _ so_far p.some_window level.result c.args.m next.result _ level.new.new _ _ p.small
-    (record { answer = level.ensures.value; flags = level.ensures.after }) p.extreme_is next.ensures c.in_default.is
-    level.auto.new c.copy_front.ensures c.copy_front.auto.to
-    c.starts_on-starts.ensures
+    let used : c.flag_count-used.result ≤ length c.loop-j.old = omega (arith, c.flag_count-used.ensures, at.size) in
+    let deep : c.loop-j.j < last_level c.args.asked.window = omega (arith, c.loop-j-test.true, c.last_level-last.ensures) in
+    let next = c.new-grid-in-loop-j.ensures in
+    run_goes_on at deep level.result _ level.new.new _ _ _ (record { answer = level.ensures.value; flags = level.ensures.after })
+    (sym (c.in_default.ensures _) ∙ run_on at _ level.ensures.value deep)
+    (omega (arith, level.auto.new, c.loop-j.auto.new, c.requires.room))
+    (ap (λ l. l ++ drop c.flag_count-used.result c.loop-j.old) c.copy_from_slice.ensures.after)
+    (omega (
+      arith,
+      length-append c.copy_from_slice.new.self (drop c.flag_count-used.result c.loop-j.old),
+      c.copy_from_slice.ensures.len,
+      length-take-le _ _ used,
+      length-drop c.flag_count-used.result c.loop-j.old,
+      at.size,
+    ))
     c.flag_count-used.ensures
-
-pub loop-answer-smaller : goal.loop-answer-smaller
-loop-answer-smaller c = omega (arith, (loop-answer-preserved c).level)
+    next.sense next.size next.window next.step

@@ -1,9 +1,13 @@
 -- `extremes::listing::add_end` meets its contract. Assumes nothing.
-use Rattle.extremes.proofs.Lists.{end_short, end_long}
+use Rattle.std.proofs.lemmas.Grind.{common_steps}
+use native.Mathlib.Omega.{arith}
+use Rattle.extremes.specs.Listing.{with_end}
 use Rattle.extremes.proofs.listing.add_end.Goals as goal
 
-pub returns-then-end-w : goal.returns-then-end-w
-returns-then-end-w c = search end_short
+pub returns-then-w-end : goal.returns-then-w-end
+unfolding with_end
+returns-then-w-end c = grind (arith, common_steps)
 
-pub returns : goal.returns
-returns c = search end_long
+pub returns-else-w-end : goal.returns-else-w-end
+unfolding with_end
+returns-else-w-end c = grind (arith, common_steps)

@@ -1,16 +1,14 @@
--- `levels::passes::rows` meets its contract: the strip's sums are the areas of the pass's windows. The loop's invariant: the first j rows were passed.
--- The measure is what is left of the rows. Assumes nothing.
-use Prim.Native.Nat.{◌-◌, ◌≤◌}
+-- `levels::passes::rows` meets its contract. The loop's invariant: the first j rows were seen. Assumes nothing.
 use mathlib.Core.Path.{◌≡◌}
-use lib.ListN.{length}
-use Rattle.sweep.specs.Strips.{strip_room}
-use Rattle.levels.specs.Passes.{area_on}
-use Rattle.levels.proofs.PassLoops.{PassesSoFar}
+use Rattle.levels.specs.Levels.{far_area}
+use Rattle.levels.specs.Passes.{rows_seen}
 use Rattle.levels.proofs.passes.rows.Given as goal
 
 abbrev pub invariant-loop-j : goal.invariant-loop-j
-invariant-loop-j l = (l.j ≤ l.g.starts) × (length l.sides ≡ strip_room)
-    × PassesSoFar l.g.pass l.g.sense (area_on l.g l.rects) l.g.t l.g.starts l.j l.initial.so_far l.so_far l.initial.new l.new
-
-abbrev pub decreases-loop-j : goal.decreases-loop-j
-decreases-loop-j l = l.g.starts - l.j
+invariant-loop-j g l = record {
+  along : l.strip.sorted.now ≡ l.fn.sorted;
+  so_far :
+      (l.so_far, l.new) ≡
+      rows_seen (g.P.Pass.looked l.g.sense) (far_area l.g.sense l.fn.sorted.rects.now l.g.size l.g.window l.reach) l.g.step l.g.starts l.j
+      (l.initial.so_far, l.initial.new);
+}

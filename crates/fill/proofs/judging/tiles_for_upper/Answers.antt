@@ -1,7 +1,0 @@
--- `fill::judging::tiles_for_upper` meets its contract, corner by corner. Assumes nothing.
-use mathlib.Core.Path.{refl}
-use Rattle.geometry.proofs.Counting.{same_box}
-use Rattle.fill.proofs.judging.tiles_for_upper.Goals as goal
-
-pub returns : goal.returns
-returns c = same_box refl refl c.smaller.ensures c.smaller-2.ensures
