@@ -46,6 +46,7 @@ pub struct Answer {
 
 // Writes a pattern's text behind a text where there is room for the most digits
 // that a number takes.
+#[tactic(auto, using(crate::proofs::Length::spell_fits))]
 pub fn write_line(pattern: &[u8], values: &[u64], text: &mut Text)
     requires { array_vec_len text.old + (length pattern.now + number_room * length values.now) ≤ answer_room }
     ensures written { text.new.items ≡ text.old.items ++ spell pattern.now values.now }

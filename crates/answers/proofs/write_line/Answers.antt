@@ -1,11 +1,8 @@
 -- A text takes at most as many bytes as its pattern and 20 digits to a number.
-use Rattle.std.proofs.Common.{arith, rules, ap, length, length-append}
+use Rattle.std.proofs.Common.{arith, ap, length, length-append}
 use Rattle.spelling.specs.Pattern.{spell}
 use Rattle.answers.proofs.Length.{spell_fits}
 use Rattle.answers.proofs.write_line.Goals as goal
-
-pub write_as-requires : goal.write_as-requires
-write_as-requires c = (search rules, omega (arith, spell_fits c.args.pattern.now c.args.values.now c.type_inv.values, c.requires))
 
 pub returns-clause-within : goal.returns-clause-within
 returns-clause-within c =
