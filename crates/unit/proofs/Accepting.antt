@@ -5,7 +5,7 @@ use mathlib.Core.List.{List}
 use native.Mathlib.Omega.{arith}
 use Rattle.forms.specs.Limits.{unit_limits}
 use Rattle.standing.specs.Faults.{Standing}
-use Rattle.jobfile.specs.File.{Outcome, refused, accepted, outcome_of}
+use Rattle.jobfile.specs.File.{refused, accepted, outcome_of}
 use Rattle.jobfile.specs.Acceptance.{FirstFault, faulty, unfed, unended, RefusedFile, long, lines}
 use Rattle.jobfile.proofs.Files.{acceptance}
 use Rattle.jobfile.proofs.Accepted.{AcceptedFacts, accepted_facts, amount_room}

@@ -5,6 +5,7 @@ use mathlib.Core.Bool.{Bool}
 use mathlib.Core.List.{List, [], ◌∷◌}
 use native.Mathlib.Nat.{mul-le-mul_right}
 use native.Mathlib.Omega.{arith}
+use lib.ListN.{get_or}
 use Rattle.rounding.specs.Nearest.{distance, Rounds}
 use Rattle.rounding.proofs.Rounding.{nearest_rounds, rounds, nearest_reduced}
 use Rattle.geometry.specs.declared.Rect.{Rect}
@@ -17,10 +18,11 @@ use Rattle.geometry.proofs.Sharing.{no_shapes→no_area, no_area→no_shapes}
 use Rattle.geometry.proofs.Extremes.{not_better}
 use Rattle.extremes.specs.Exact.{extreme, extreme_in}
 use Rattle.extremes.proofs.Promises.{extreme_over_all}
-use Rattle.zoom.specs.declared.End.TheVariants.{Exact}
+use Rattle.zoom.specs.declared.End.{End}
+use Rattle.zoom.specs.declared.End.TheVariants.{Met, Stopped, Exact}
 use Rattle.levels.specs.declared.Level.{Level}
 use Rattle.zoom.specs.declared.Quick.{Quick}
-use Rattle.zoom.specs.Run.{last_level, level_step, low_end, high_end, Brackets}
+use Rattle.zoom.specs.Run.{last_level, level_step, low_end, high_end, Brackets, end_number}
 use Rattle.levels.specs.Grid.{AtStart}
 use Rattle.zoom.proofs.Numbers.{some_squares}
 use Rattle.zoom.proofs.Steps.{step_positive}
@@ -29,7 +31,12 @@ use Rattle.zoom.proofs.Bracket.{Bracketing, Promised, Accurate, quick_run_promis
 use Rattle.zoom.proofs.RunEnd.{EndsAtLevel, run_end}
 use Rattle.spacing.specs.declared.Keepout.{Keepout}
 use Rattle.tiles.specs.declared.Plan.{Plan}
+use Rattle.fill.specs.declared.Bound.{Bound}
+use Rattle.fill.specs.declared.Bound.TheVariants.{Over, Under}
+use Rattle.fill.specs.declared.Verdict.{Verdict}
+use Rattle.fill.specs.declared.Verdict.TheVariants.{Safe, Broken, Undecided}
 use Rattle.tiles.specs.Tiles.{number_at}
+use Rattle.fill.specs.Judge.{bound_number, verdict_numbers, verdict_of}
 use Rattle.fill.specs.Placement.{Placement}
 use Rattle.fill.proofs.Promise.{Dissected, safe_keeps, broken_breaks}
 use Rattle.fill.proofs.Placing.{placement}
@@ -57,6 +64,44 @@ pub record Runs (st : Standing) : Type 0 where
   pub bounds_order : st.head.lower ≤ st.head.upper
   pub amounts_fit : (i j : ℕ) → i < tiles_across st.head → j < tiles_across st.head →
       number_at st.amounts (tiles_across st.head) i j ≤ room_of st i j
+
+-- ---- a number tells the case
+
+number_end : (e f : End) → end_number e ≡ end_number f → e ≡ f
+number_end Met Met h = refl
+number_end Met Stopped h = absurd (omega (arith, h))
+number_end Met Exact h = absurd (omega (arith, h))
+number_end Stopped Met h = absurd (omega (arith, h))
+number_end Stopped Stopped h = refl
+number_end Stopped Exact h = absurd (omega (arith, h))
+number_end Exact Met h = absurd (omega (arith, h))
+number_end Exact Stopped h = absurd (omega (arith, h))
+number_end Exact Exact h = refl
+
+number_safe : (v : Verdict) → verdict_numbers v ≡ 0 ∷ [] → v ≡ Safe
+number_safe Safe h = refl
+number_safe (Broken f) h = absurd (omega (arith, ap (λ (l : List ℕ). get_or l 0 0) h))
+number_safe (Undecided f) h = absurd (omega (arith, ap (λ (l : List ℕ). get_or l 0 0) h))
+
+number_bound : (a b : Bound) → bound_number a ≡ bound_number b → a ≡ b
+number_bound Over Over h = refl
+number_bound Under Under h = refl
+number_bound Over Under h = absurd (omega (arith, h))
+number_bound Under Over h = absurd (omega (arith, h))
+
+number_broken : (v : Verdict) (b : Bound) (i j : ℕ) → verdict_numbers v ≡ 1 ∷ bound_number b ∷ i ∷ j ∷ [] → v ≡ Broken (record { bound = b; column = i; row = j })
+number_broken Safe b i j h = absurd (omega (arith, ap (λ (l : List ℕ). get_or l 0 0) h))
+number_broken (Undecided f) b i j h = absurd (omega (arith, ap (λ (l : List ℕ). get_or l 0 0) h))
+number_broken (Broken f) b i j h = λ t. Broken (record { bound = bound t; column = column t; row = row t })
+  where
+    bound : f.bound ≡ b
+    bound = number_bound f.bound b (ap (λ (l : List ℕ). get_or l 1 0) h)
+
+    column : f.column ≡ i
+    column = ap (λ (l : List ℕ). get_or l 2 0) h
+
+    row : f.row ≡ j
+    row = ap (λ (l : List ℕ). get_or l 3 0) h
 
 -- ---- the exact run
 
@@ -125,12 +170,12 @@ quick_kept : (s : Sense) (st : Standing) → Runs st →
 quick_kept s st r =
     record {
       bracket = bracket_kept s st q.last p.ends;
-      met = λ e. midpoint h.accuracy (extreme s rs n w).area (low_end s q.last) (high_end s q.last) (p.accurate e);
+      met = λ e. midpoint h.accuracy (extreme s rs n w).area (low_end s q.last) (high_end s q.last) (p.accurate (number_end q.end Met e));
       some_level = ended.some;
       levels_done = levels_at_most s rs n w h.accuracy h.levels r.some_level;
       level_exists = λ j k. (ended.level j k.done (other j k)).0;
       last_level_in = λ j k. (ended.level j k.done (other j k)).1;
-      exact_ends = λ e. ended.exact e;
+      exact_ends = λ e. ended.exact (number_end q.end Exact e);
       each_level = λ j k. level_kept s st r j k;
       narrows = λ j k. level_narrows s rs n w r.some_window j k;
     }
@@ -157,7 +202,7 @@ quick_kept s st r =
     ended = run_end s rs n w h.accuracy h.levels r.some_window r.window_fits
 
     other : (j : ℕ) → EndsWith q j → q.end ≡ Exact → ⊥
-    other j k e = k.not_exact e
+    other j k e = k.not_exact (ap end_number e)
 
 -- ---- the shapes under a named window
 
@@ -234,11 +279,11 @@ fill_kept : (st : Standing) → Runs st → FillPromise st (answer_of st).verdic
 unfolding answer_for
 fill_kept st k =
     record {
-      safe = λ e chosen p b x y q. safe_keeps ks rs amounts plan size whole chosen p k.some_tile e b x y q.across q.down;
-      broken_there = λ f e.
-          let s = broken_breaks ks rs amounts plan size whole some.0 some.1 f e in
-          record { across = corner_at f.column s.column; down = corner_at f.row s.row };
-      broken = λ f e chosen p c. (broken_breaks ks rs amounts plan size whole chosen p f e).breaks c;
+      safe = λ e chosen p b x y q. safe_keeps ks rs amounts plan size whole chosen p k.some_tile (number_safe v e) b x y q.across q.down;
+      broken_there = λ b i j e.
+          let s = broken_breaks ks rs amounts plan size whole some.0 some.1 (record { bound = b; column = i; row = j }) (number_broken v b i j e) in
+          record { across = corner_at i s.column; down = corner_at j s.row };
+      broken = λ b i j e chosen p c. (broken_breaks ks rs amounts plan size whole chosen p (record { bound = b; column = i; row = j }) (number_broken v b i j e)).breaks c;
       placeable = some;
       clear = λ chosen p x y c s a. eligible_clear st.head.gap a x y (p.allowed x y c);
     }
@@ -260,6 +305,9 @@ fill_kept st k =
 
     whole : Dissected plan size
     whole = dissected st k
+
+    v : Verdict
+    v = verdict_of rs amounts plan
 
     corner_at : (i : ℕ) → i ≤ plan.across - plan.cut → i * plan.side ≤ size - plan.window
     corner_at i h = corner i plan.across plan.cut plan.side plan.window size h k.cut_fits k.window_tiles k.layout_tiles

@@ -2,7 +2,7 @@
 use Prim.Native.Nat.{ℕ, ◌+◌, ◌≤◌, ◌<◌}
 use mathlib.Core.Path.{◌≡◌, refl, subst⁻¹}
 use mathlib.Core.Bool.{Bool, not}
-use mathlib.Core.List.{List}
+use mathlib.Core.List.{List, [], ◌∷◌}
 use mathlib.Core.Logic.{◌⊎◌, inl, inr}
 use native.Mathlib.Omega.{arith}
 use lib.Dec.{T}
@@ -16,8 +16,7 @@ use Rattle.extremes.specs.Exact.{extreme}
 use Rattle.extremes.proofs.Promises.{OverAll, extreme_over_all}
 use Rattle.fill.specs.declared.Bound.{Bound}
 use Rattle.fill.specs.declared.Bound.TheVariants.{Over, Under}
-use Rattle.fill.specs.declared.Failure.{Failure}
-use Rattle.fill.specs.declared.Verdict.TheVariants.{Broken}
+use Rattle.fill.specs.Judge.{bound_number, verdict_numbers}
 use Rattle.fill.specs.Placement.{chosen_area}
 use Rattle.positions.proofs.Adding.{none_passes, passes_none, tally_adds_up}
 use Rattle.forms.specs.Shapes.{rectangles}
@@ -68,7 +67,7 @@ positions_kept st order fill =
       within = refl;
       all = tally_adds_up rs n w st.head.lower st.head.upper order;
       safe = λ e. fails_none st Over (λ x y q. keeps_less st.head.upper w (area_at st x y) (area_at st x y + filled x y) (omega arith) (fill.safe e chosen fill.placeable.1 Over x y q));
-      broken_under = λ f e u. some_under f e u (le_or_lt (failing st Under) 0);
+      broken_under = λ i j e. some_under i j e (le_or_lt (failing st Under) 0);
     }
   where
     rs : List Rect
@@ -93,8 +92,9 @@ positions_kept st order fill =
     filled : (x y : ℕ) → ℕ
     filled x y = chosen_area chosen (window_box w x y)
 
-    some_under : (f : Failure) → (answer_of st).verdict ≡ Broken f → f.bound ≡ Under → (failing st Under ≤ 0) ⊎ (0 < failing st Under) → 0 < failing st Under
-    some_under f e u (inr h) = h
-    some_under f e u (inl h) =
-        absurd (fill.broken f e chosen fill.placeable.1
-        (rw u (keeps_more st.head.lower w _ _ (omega arith) (none_fails st Under (omega (arith, h)) _ _ (fill.broken_there f e)))))
+    some_under : (i j : ℕ) → verdict_numbers (answer_of st).verdict ≡ 1 ∷ bound_number Under ∷ i ∷ j ∷ [] → (failing st Under ≤ 0) ⊎ (0 < failing st Under) →
+        0 < failing st Under
+    some_under i j e (inr h) = h
+    some_under i j e (inl h) =
+        absurd (fill.broken Under i j e chosen fill.placeable.1
+        (keeps_more st.head.lower w _ _ (omega arith) (none_fails st Under (omega (arith, h)) _ _ (fill.broken_there Under i j e))))

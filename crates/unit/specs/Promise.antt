@@ -1,6 +1,7 @@
 -- Demand 3: what the answer to an accepted job promises, whatever its shapes and numbers; what is promised of an extreme is promised of the
--- greatest and of the least by one record. `Guarantee` in specs/Guarantee.antt makes it part of the unit's contracts.
-use Rattle.std.specs.Prelude.{ℕ, suc, ◌+◌, ◌-◌, ◌*◌, ◌≤◌, ◌<◌, ◌≡◌, Bool, false, not, ◌&&◌, List, ◌∷◌, ◌⊎◌, T}
+-- greatest and of the least by one record. An answer that is an enum is spoken of by the paper's number and values. `Guarantee` in
+-- specs/Guarantee.antt makes it part of the unit's contracts.
+use Rattle.std.specs.Prelude.{ℕ, suc, ◌+◌, ◌-◌, ◌*◌, ◌≤◌, ◌<◌, ◌≡◌, Bool, false, not, ◌&&◌, List, [], ◌∷◌, ◌⊎◌, T}
 use Rattle.rounding.specs.Nearest.{distance, Rounds}
 use Rattle.geometry.specs.declared.Spot.{Spot}
 use Rattle.geometry.specs.declared.Sense.{Sense}
@@ -9,16 +10,14 @@ use Rattle.geometry.specs.Extreme.{Bounded}
 use Rattle.geometry.specs.Positions.{window_area, window_shapes, positions, Position}
 use Rattle.extremes.specs.Exact.{extreme_in}
 use Rattle.levels.specs.declared.Level.{Level}
-use Rattle.zoom.specs.declared.End.TheVariants.{Met, Exact}
 use Rattle.zoom.specs.declared.Quick.{Quick}
-use Rattle.zoom.specs.Run.{last_level, level_step, level_at, low_end, high_end, Brackets, Narrows}
+use Rattle.zoom.specs.Run.{last_level, level_step, level_at, low_end, high_end, Brackets, Narrows, end_number}
 use Rattle.spacing.specs.declared.Keepout.{Keepout}
 use Rattle.fill.specs.declared.Bound.{Bound}
 use Rattle.fill.specs.declared.Bound.TheVariants.{Over, Under}
-use Rattle.fill.specs.declared.Failure.{Failure}
 use Rattle.fill.specs.declared.Verdict.{Verdict}
-use Rattle.fill.specs.declared.Verdict.TheVariants.{Safe, Broken}
 use Rattle.spacing.specs.Eligible.{gap_between, square}
+use Rattle.fill.specs.Judge.{bound_number, verdict_numbers}
 use Rattle.fill.specs.Placement.{Placement, placed_sum, keeps}
 use Rattle.positions.specs.Tallies.{positions_where}
 use Rattle.forms.specs.declared.Kind.{Kind}
@@ -101,14 +100,14 @@ pub record LevelPromise (s : Sense) (st : Standing) (j m : ℕ) : Type 0 where
 -- the run ended with level j, and not with the exact search
 pub record EndsWith (q : Quick) (j : ℕ) : Type 0 where
   pub done : q.done ≡ suc j
-  pub not_exact : q.end ≡ Exact → ⊥
+  pub not_exact : end_number q.end ≡ 2 → ⊥
 
 -- a quick run, beside the extreme m of the exact run
 pub record QuickPromise (s : Sense) (st : Standing) (q : Quick) (m : ℕ) : Type 0 where
   -- its last level, the exact search included: the window named is real, and m lies between the ends
   pub bracket : BracketPromise s st q.last m
   -- "met" for accuracy E bounds the midpoint of the ends: 1000 × |lower + upper end − 2m| ≤ 2 × E × m
-  pub met : q.end ≡ Met →
+  pub met : end_number q.end ≡ 0 →
       1000 * distance (low_end s q.last + high_end s q.last) (2 * m) ≤ 2 * st.head.accuracy * m
   -- at least one level was done, and no more than V
   pub some_level : 1 ≤ q.done
@@ -117,7 +116,7 @@ pub record QuickPromise (s : Sense) (st : Standing) (q : Quick) (m : ℕ) : Type
   pub level_exists : (j : ℕ) → EndsWith q j → j ≤ last_level st.head.window
   pub last_level_in : (j : ℕ) → EndsWith q j → q.last ≡ level_in s st j
   -- after the exact search both ends are m
-  pub exact_ends : q.end ≡ Exact → (q.last.named.area ≡ m) × (q.last.limit ≡ m)
+  pub exact_ends : end_number q.end ≡ 2 → (q.last.named.area ≡ m) × (q.last.limit ≡ m)
   -- every level from 0 to z, whether the run did it or not; from one to the next the lower end never falls and the upper one never rises. To the
   -- exact search this follows, since its ends are m
   pub each_level : (j : ℕ) → j ≤ last_level st.head.window → LevelPromise s st j m
@@ -148,7 +147,7 @@ pub record DensityPromise (st : Standing) (q : Quick) (m d : ℕ) : Type 0 where
   -- beside the half for the rounding it is off the greatest density by at most the density of half of C − F, however the run ended; after "met"
   -- for accuracy E, by at most E thousandths of the greatest density
   pub near : DensityOff st m d (10000 * (q.last.limit - q.last.named.area))
-  pub met : q.end ≡ Met → DensityOff st m d (20 * st.head.accuracy * m)
+  pub met : end_number q.end ≡ 0 → DensityOff st m d (20 * st.head.accuracy * m)
   -- where F is C, so after the exact search and after "met" for accuracy 0, it is the greatest density itself, rounded
   pub equal_ends : q.last.named.area ≡ q.last.limit → Rounds (10000 * m) (st.head.window * st.head.window) d
 
@@ -179,8 +178,8 @@ pub record PositionsPromise (st : Standing) (a : Answer) : Type 0 where
   pub all : a.positions.under + a.positions.within + a.positions.over
       ≡ positions st.head.size st.head.window * positions st.head.size st.head.window
   -- fill only adds to a window: after "safe" no position is over, though some may be under, and after "broken under" some position is under
-  pub safe : a.verdict ≡ Safe → a.positions.over ≡ 0
-  pub broken_under : (f : Failure) → a.verdict ≡ Broken f → f.bound ≡ Under → 0 < a.positions.under
+  pub safe : verdict_numbers a.verdict ≡ 0 ∷ [] → a.positions.over ≡ 0
+  pub broken_under : (i j : ℕ) → verdict_numbers a.verdict ≡ 1 ∷ bound_number Under ∷ i ∷ j ∷ [] → 0 < a.positions.under
 
 -- a shape is one of a list
 pub data Among (s : Shape) : List Shape → Type 0 where
@@ -197,10 +196,10 @@ pub record Clear (k : Keepout) (x y : ℕ) : Type 0 where
 -- "broken" the named window is a position and breaks the bound named; there is at least one placement; and every one stays clear of all shapes, by B
 -- of drawn metal and by D of dummies
 pub record FillPromise (st : Standing) (v : Verdict) : Type 0 where
-  pub safe : v ≡ Safe → (chosen : ℕ → ℕ → Bool) → Places st chosen → (b : Bound) (x y : ℕ) → PositionOf st x y → KeepsAt st chosen b x y
-  pub broken_there : (f : Failure) → v ≡ Broken f → PositionOf st (f.column * tile_side st.head) (f.row * tile_side st.head)
-  pub broken : (f : Failure) → v ≡ Broken f → (chosen : ℕ → ℕ → Bool) → Places st chosen →
-      KeepsAt st chosen f.bound (f.column * tile_side st.head) (f.row * tile_side st.head) → ⊥
+  pub safe : verdict_numbers v ≡ 0 ∷ [] → (chosen : ℕ → ℕ → Bool) → Places st chosen → (b : Bound) (x y : ℕ) → PositionOf st x y → KeepsAt st chosen b x y
+  pub broken_there : (b : Bound) (i j : ℕ) → verdict_numbers v ≡ 1 ∷ bound_number b ∷ i ∷ j ∷ [] → PositionOf st (i * tile_side st.head) (j * tile_side st.head)
+  pub broken : (b : Bound) (i j : ℕ) → verdict_numbers v ≡ 1 ∷ bound_number b ∷ i ∷ j ∷ [] → (chosen : ℕ → ℕ → Bool) → Places st chosen →
+      KeepsAt st chosen b (i * tile_side st.head) (j * tile_side st.head) → ⊥
   pub placeable : (chosen : ℕ → ℕ → Bool) × Places st chosen
   pub clear : (chosen : ℕ → ℕ → Bool) → Places st chosen → (x y : ℕ) → T (chosen x y) → (s : Shape) → Among s st.shapes →
       Clear (keepout_of st.head.gap s) x y
