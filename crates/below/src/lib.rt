@@ -22,12 +22,3 @@ enum Axis {
     Across,
     Down,
 }
-
-impl Axis {
-    fn other(self) -> Axis {
-        match self {
-            Axis::Across => Axis::Down,
-            Axis::Down => Axis::Across,
-        }
-    }
-}
