@@ -33,7 +33,9 @@ pub enum Verdict {
     Undecided(Failure),
 }
 
-// The verdict on a table of amounts, one to a tile, row by row.
+// The verdict on a table of amounts, one to a tile, row by row. Not inlined: its
+// tables are not to stay on the stack while a quick run has its own there.
+#[inline(never)]
 pub fn judge(sorted: &Sorted, amounts: &[u64], plan: Plan) -> Verdict
     requires { Planned amounts.now plan }
     ensures { result ≡ verdict_of sorted.now.rects.now amounts.now plan }

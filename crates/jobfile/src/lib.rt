@@ -63,7 +63,10 @@ fn read_lines(file: &[u8]) -> Result<Standing, Refusal>
     }
 }
 
-// Reads a job file: what stands at its end, or what it is refused for.
+// Reads a job file: what stands at its end, or what it is refused for. Not inlined:
+// what stands is large, and the reader's copies of it are not to stay on the stack
+// while the job runs.
+#[inline(never)]
 #[tactic(auto, unfolding(crate::specs::File::outcome_of))]
 pub fn read(file: &[u8]) -> Result<Standing, Refusal>
     ensures { told result ≡ outcome_of unit_limits file.now }

@@ -20,10 +20,13 @@ fn render_job(job: &Standing) -> Text
     text_of(run(job.head(), job.rects(), job.amounts()))
 }
 
-// Reads a file, and gives the text of its answer where it is accepted.
+// Reads a file, and gives the text of its answer where it is accepted. What stands is
+// lent and not moved, since it is large.
 pub(crate) fn render(file: &[u8]) -> Result<Text, Refusal>
     ensures { Rendering (outcome_of unit_limits file.now) result }
 {
-    let job = jobfile::read(file)?;
-    Ok(render_job(&job))
+    match &jobfile::read(file) {
+        Ok(job) => Ok(render_job(job)),
+        Err(refusal) => Err(*refusal),
+    }
 }
