@@ -231,7 +231,7 @@ start_is lows highs s =
 
 pub true_area : (lows highs : List Upright) (f : Frame) (left right : ℕ) → f ≡ frame_at lows highs left right → left ≤ right → TrueArea lows highs f
 true_area lows highs f left right e h =
-    subst (TrueArea lows highs) (sym e) (record { counted = λ m y1 y2 s. s.areas left right h })
+    subst (TrueArea lows highs) (sym e) (record { counted = λ rects y1 y2 s. s.areas left right h })
 
 -- it is not right of any columns at first, and of none further right; where it was moved to, it is not right of columns from there on
 module _ (lows highs : List Upright) (f : Frame) where
@@ -276,4 +276,4 @@ module _ (s : Strip) (f : Frame) (lows highs : List Upright) (e : lows ≡ s.low
     pub sweep_area : f.area ≡ strip_area s left right
     sweep_area =
         subst₂ (λ (l r : ℕ). f.area ≡ strip_area s l r) at_left at_right
-        ((rw (e, h) at t).counted s.sorted.now s.y1 s.y2 s.strip)
+        ((rw (e, h) at t).counted s.sorted.now.rects.now s.y1 s.y2 s.strip)
