@@ -147,10 +147,10 @@ module _ (m : Sorted) (y1 y2 : ℕ) where
       )
 
   -- so what the rows hold is a strip
-  pub strip_of : (lows highs : List Upright) → lows ≡ low_list → highs ≡ high_list → StripOf m y1 y2 lows highs
+  pub strip_of : (lows highs : List Upright) → lows ≡ low_list → highs ≡ high_list → StripOf rects y1 y2 lows highs
   strip_of lows highs e f = rw (e, f) record {
-    low = refl;
-    high = refl;
+    low = ap (λ (rs : List Rect). strip_sides rs Low y1 y2) m.low.exact;
+    high = ap (λ (rs : List Rect). strip_sides rs High y1 y2) m.high.exact;
     strip = record {
       low = strip_sides_lem rects m.lows.items Low m.low y1 y2 m.layer;
       high = strip_sides_lem rects m.highs.items High m.high y1 y2 m.layer;

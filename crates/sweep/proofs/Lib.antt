@@ -1,3 +1,4 @@
 pub mod Sums
 pub mod Moving
+pub mod Ordered
 pub mod Covered

@@ -2,12 +2,12 @@
 use Rattle.std.specs.Prelude.{ℕ, ◌*◌, ◌≤◌, ◌≡◌, List, ltb}
 use Rattle.geometry.specs.Sizes.{widest}
 use Rattle.geometry.specs.Count.{one_if}
+use Rattle.geometry.specs.declared.Rect.{Rect}
 use Rattle.geometry.specs.Layout.{covered_area}
 use Rattle.sweep.specs.declared.Upright.{Upright}
 use Rattle.sweep.specs.declared.cursors.Cursor.{Cursor}
 use Rattle.sweep.specs.declared.cursors.Edges.{Edges}
 use Rattle.sweep.specs.declared.frames.Frame.{Frame}
-use Rattle.sweep.specs.declared.sorted.Sorted.{Sorted}
 use Rattle.sweep.specs.Strips.{side_sum, ramps, strip_sum, StripOf}
 
 -- the sum of g over the sides left of column x
@@ -52,8 +52,8 @@ start_frame = record { left = 0; right = 0; area = 0; low = no_edges; high = no_
 
 -- the area of a box of a strip is the true one: the covered squares between its columns, in every layout and between every two rows whose strip it is
 pub record TrueArea (lows highs : List Upright) (f : Frame) : Type 0 where
-  pub counted : (m : Sorted) (y1 y2 : ℕ) → StripOf m y1 y2 lows highs →
-      f.area ≡ covered_area m.rects.now (record { x1 = f.left; y1 = y1; x2 = f.right; y2 = y2 })
+  pub counted : (rects : List Rect) (y1 y2 : ℕ) → StripOf rects y1 y2 lows highs →
+      f.area ≡ covered_area rects (record { x1 = f.left; y1 = y1; x2 = f.right; y2 = y2 })
 
 -- a box of a strip has the true sums and the true area, and is not right of the columns `left` and `right`
 pub record Behind (lows highs : List Upright) (f : Frame) (left right : ℕ) : Type 0 where

@@ -10,8 +10,7 @@ use Rattle.geometry.specs.Overlaps.{common}
 use Rattle.sweep.specs.declared.Side.{Side}
 use Rattle.sweep.specs.declared.Side.TheVariants.{Low, High}
 use Rattle.sweep.specs.declared.Upright.{Upright}
-use Rattle.sweep.specs.declared.sorted.Sorted.{Sorted}
-use Rattle.sweep.specs.Order.{column}
+use Rattle.sweep.specs.Order.{column, ordered}
 
 -- a side of a rectangle, with the rows from y1 to y2 that the rectangle has
 abbrev pub side_in : Side → (y1 y2 : ℕ) → Rect → Upright
@@ -50,8 +49,8 @@ pub record IsStrip (lows highs : List Upright) : Type 0 where
   pub grows : (x1 x2 : ℕ) → x1 ≤ x2 → ramps lows x1 + ramps highs x2 ≤ ramps lows x2 + ramps highs x1
 
 -- the strip of the rows y1 to y2: its two lists, and that what is added up along it is the true area of every box between those rows
-pub record StripOf (m : Sorted) (y1 y2 : ℕ) (lows highs : List Upright) : Type 0 where
-  pub low : lows ≡ strip_sides m.lows.items Low y1 y2
-  pub high : highs ≡ strip_sides m.highs.items High y1 y2
+pub record StripOf (rects : List Rect) (y1 y2 : ℕ) (lows highs : List Upright) : Type 0 where
+  pub low : lows ≡ strip_sides (ordered Low rects) Low y1 y2
+  pub high : highs ≡ strip_sides (ordered High rects) High y1 y2
   pub strip : IsStrip lows highs
-  pub areas : (x1 x2 : ℕ) → x1 ≤ x2 → strip_sum lows highs x1 x2 ≡ covered_area m.rects.now (record { x1 = x1; y1 = y1; x2 = x2; y2 = y2 })
+  pub areas : (x1 x2 : ℕ) → x1 ≤ x2 → strip_sum lows highs x1 x2 ≡ covered_area rects (record { x1 = x1; y1 = y1; x2 = x2; y2 = y2 })

@@ -16,7 +16,7 @@ pub struct Strip<'a> {
     pub y2: u64,
     pub lows: ArrayVec<Upright, MOST_RECTS>,
     pub highs: ArrayVec<Upright, MOST_RECTS>,
-    pub ghost strip: { StripOf sorted.now y1 y2 lows.items highs.items },
+    pub ghost strip: { StripOf sorted.now.rects.now y1 y2 lows.items highs.items },
 }
 
 impl<'a> Strip<'a> {

@@ -9,7 +9,7 @@ use Rattle.sweep.proofs.strips.Strip.set_rows.Goals as goal
 
 pub invariant_of-self : goal.invariant_of-self
 invariant_of-self c = let a = c.args in record {
-  strip = strip_of _ _ _ _ _
+  strip = strip_of a.self.now.sorted.now _ _ _ _
       (c.set_sides.ensures ∙ ap (λ (l : List Rect). strip_sides l Low a.y1 a.y2) c.deref.ensures.0)
       (c.set_sides-2.ensures ∙ ap (λ (l : List Rect). strip_sides l High a.y1 a.y2) c.deref-2.ensures.0);
 }
