@@ -47,8 +47,8 @@ pub struct Answer {
 // Writes a pattern's text behind a text where there is room for the most digits
 // that a number takes.
 #[tactic(auto, using(crate::proofs::Length::spell_fits))]
-pub fn write_line(pattern: &[u8], values: &[u64], text: &mut Text)
-    requires { array_vec_len text.old + (length pattern.now + number_room * length values.now) ≤ answer_room }
+pub fn write_line<const N: usize>(pattern: &[u8], values: &[u64], text: &mut ArrayVec<u8, N>)
+    requires { array_vec_len text.old + (length pattern.now + number_room * length values.now) ≤ N }
     ensures written { text.new.items ≡ text.old.items ++ spell pattern.now values.now }
     ensures within { array_vec_len text.new ≤ array_vec_len text.old + (length pattern.now + number_room * length values.now) }
 {

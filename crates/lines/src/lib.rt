@@ -1,5 +1,5 @@
 // The form that a line of a job file spells.
-#![tactic(auto, unfolding(spelling::specs::Text::bytes, spelling::specs::Scanning::places, crate::specs::Spellings::one_gap_pattern, crate::specs::Spellings::two_gaps_pattern, crate::specs::Spellings::rect_pattern, crate::specs::Spellings::dummy_pattern, crate::specs::Spellings::fill_pattern, crate::specs::Spellings::end_pattern))]
+#![tactic(auto, using(spelling::proofs::Inverse::whole_table), unfolding(spelling::specs::Text::bytes, spelling::specs::Scanning::places, crate::specs::Spellings::one_gap_pattern, crate::specs::Spellings::two_gaps_pattern, crate::specs::Spellings::rect_pattern, crate::specs::Spellings::dummy_pattern, crate::specs::Spellings::fill_pattern, crate::specs::Spellings::end_pattern))]
 
 ghost use Rattle.std.specs.Prelude.{◌≡◌, option_map};
 ghost use Rattle.spelling.specs.Pattern.{read_as};

@@ -1,17 +1,17 @@
 -- Both ways that `read_as` is the inverse of `spell`: what is read is spelled so, and what is spelled so is read.
-use Prim.Native.Nat.{ℕ, suc, ◌≤◌}
+use Prim.Native.Nat.{ℕ, suc, ◌-◌, ◌≤◌}
 use mathlib.Core.Path.{◌≡◌, refl, sym, ap, ap₂, ◌∙◌}
 use mathlib.Core.Bool.{Bool, true, false, not, ◌&&◌, ◌||◌}
 use mathlib.Core.List.{List, [], ◌∷◌, ◌++◌, append-nil}
-use Rattle.std.proofs.Common.{Option, Some, None}
+use Rattle.std.proofs.Common.{Option, Some, None, option_map}
 use native.Mathlib.Omega.{arith}
 use borrow.Author.Tests.{leb-true, eqb-true, eqb-false, not-true}
 use lib.Dec.{leb, eqb}
-use lib.ListN.{length}
+use lib.ListN.{length, replicate}
 use Rattle.laws.proofs.Tests.{both}
 use Rattle.spelling.specs.Decimal.{decimal, EachShort, is_digit, digits_of, past_digits, value_from, same_bytes, is_numeral}
 use Rattle.spelling.specs.Pattern.{is_place, spell, with_number, read_as}
-use Rattle.spelling.specs.Scanning.{places}
+use Rattle.spelling.specs.Scanning.{places, padded}
 use Rattle.spelling.proofs.Numerals.{value_decimal, all_decimal, decimal_numeral, same_equal, digits_append, digits_then_past}
 use Rattle.spelling.proofs.Patterns.{places_place, spell_place, read_number, read_no_number, places_byte, spell_byte, read_same, read_other, read_short}
 
@@ -72,6 +72,16 @@ right most (c ∷ p) s = right_step most c p (λ t. right most p t) (is_place c)
 
 pub read_is_spelled : (most : ℕ) (p line ns : List ℕ) → read_as most p line ≡ Some ns → Spelled most p line ns
 read_is_spelled most p line ns e = rw e at (right most p line)
+
+-- a table with as many places as the pattern has holds the numbers alone
+pub whole_table : (most n : ℕ) (p line : List ℕ) → places p ≡ n → option_map (padded n) (read_as most p line) ≡ read_as most p line
+whole_table most n p line e = go (read_as most p line) (right most p line)
+  where
+    go : (o : Option (List ℕ)) → Right most p line o → option_map (padded n) o ≡ o
+    go None r = refl
+    go (Some ns) r =
+        let none : n - length ns ≡ 0 = omega (arith, e, r.count) in
+        ap {B = Option (List ℕ)} Some (ap (λ (k : ℕ). ns ++ replicate k 0) none ∙ append-nil ns)
 
 -- ---- what is spelled so is read
 

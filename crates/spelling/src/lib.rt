@@ -1,9 +1,9 @@
 // Lines by pattern: the one speller that reads job lines and writes answer lines.
 #![tactic(auto)]
 
-ghost use Rattle.std.specs.Prelude.{◌≡◌, ◌+◌, ◌≤◌, ◌<◌, ◌∷◌, [], ◌++◌, length, is_some, IfSome};
+ghost use Rattle.std.specs.Prelude.{◌≡◌, ◌+◌, ◌≤◌, ◌<◌, ◌∷◌, [], ◌++◌, length, is_some, IfSome, option_map};
 ghost use Rattle.arrayvec.specs.ArrayVec.{array_vec_len};
-ghost use Rattle.spelling.specs.Scanning.{digits_room, places, line_length};
+ghost use Rattle.spelling.specs.Scanning.{digits_room, places, padded, line_length};
 ghost use Rattle.spelling.specs.Decimal.{decimal, digits_of, past_digits, value_from, is_spelling, is_numeral};
 ghost use Rattle.spelling.specs.Pattern.{spell, read_as};
 
@@ -75,11 +75,12 @@ fn read_number(text: &[u8], most: usize) -> Option<(u64, &[u8])>
     }
 }
 
-// Reads a line against a pattern, each number of at most so many digits.
+// Reads a line against a pattern, each number of at most so many digits: its
+// numbers in order, 0 behind them.
 pub fn read_as<const N: usize>(line: &[u8], pattern: &[u8], most: usize) -> Option<[u64; N]>
-    requires numbers { places pattern.now ≡ N }
+    requires numbers { places pattern.now ≤ N }
     requires digits_fit { most ≤ digits_room }
-    ensures { result ≡ read_as most pattern.now line.now }
+    ensures { result ≡ option_map (padded N) (read_as most pattern.now line.now) }
 {
     let mut values = [0u64; N];
     let mut count = 0;

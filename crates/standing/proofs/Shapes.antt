@@ -1,6 +1,6 @@
 -- Shapes by their kinds and rectangles, and what all of them are good for.
 use mathlib.Core.Path.{◌≡◌, refl, sym, ap, ◌∙◌}
-use mathlib.Core.List.{List, [], ◌∷◌, ◌++◌}
+use mathlib.Core.List.{List, [], ◌∷◌, ◌++◌, map}
 use native.Mathlib.Nat.{le_trans}
 use native.Mathlib.Omega.{arith}
 use lib.Dec.{lit≤}
@@ -24,6 +24,12 @@ rects_by [] [] e = refl
 rects_by [] (r ∷ rs) e = absurd (omega arith)
 rects_by (k ∷ ks) [] e = absurd (omega arith)
 rects_by (k ∷ ks) (r ∷ rs) e = ap (λ (l : List Rect). r ∷ l) (rects_by ks rs (omega arith))
+
+pub kinds_by : (ks : List Kind) (rs : List Rect) → length ks ≡ length rs → map (λ (s : Shape). s.kind) (shapes_by ks rs) ≡ ks
+unfolding shapes_by
+kinds_by [] rs e = refl
+kinds_by (k ∷ ks) [] e = absurd (omega arith)
+kinds_by (k ∷ ks) (r ∷ rs) e = ap (λ (l : List Kind). k ∷ l) (kinds_by ks rs (omega arith))
 
 pub by_length : (ks : List Kind) (rs : List Rect) → length ks ≡ length rs → length (shapes_by ks rs) ≡ length rs
 by_length ks rs e = sym (length-map (shapes_by ks rs) (λ s. s.rect)) ∙ ap length (rects_by ks rs e)

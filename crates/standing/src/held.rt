@@ -1,5 +1,5 @@
 // What stands, held in fixed tables.
-ghost use Rattle.std.specs.Prelude.{◌≡◌};
+ghost use Rattle.std.specs.Prelude.{◌≡◌, map, ⊤};
 ghost use Rattle.geometry.specs.Layout.{Layer};
 ghost use Rattle.spacing.specs.Eligible.{fillable_area};
 ghost use Rattle.tiles.specs.Tiles.{tile_index, number_at};
@@ -20,10 +20,11 @@ use forms::{
 };
 use geometry::Rect;
 use spacing::{Keepout, Region};
+use std::alloc::AllocError;
 use std::marker::Model;
 
 // How many amounts the table has room for, one to a tile.
-const AMOUNTS_ROOM: usize = (MOST_TILES * MOST_TILES) as usize;
+pub const AMOUNTS_ROOM: usize = (MOST_TILES * MOST_TILES) as usize;
 
 // What stands while a job file is read, as standing/specs/Faults defines it. Rectangles
 // and regions are tables of their own, since areas are formed of the ones and fillable
@@ -52,7 +53,7 @@ impl Model for Standing {
 }
 
 // Before the head.
-fn no_head() -> Head
+pub fn no_head() -> Head
     ensures { result ≡ no_head }
 {
     Head {
@@ -68,7 +69,7 @@ fn no_head() -> Head
 }
 
 // The place of tile (i, j) in the table of amounts.
-fn tile_place(h: Head, i: u64, j: u64) -> usize
+pub fn tile_place(h: Head, i: u64, j: u64) -> usize
     requires { TileIn h i j }
     ensures { result ≡ tile_index (tiles_across h) i j }
 {
@@ -111,6 +112,13 @@ impl Standing {
         ensures layer { Layer result.now }
     {
         self.rects.as_slice()
+    }
+
+    // The kinds of all shapes.
+    pub fn kinds(&self) -> &[Kind]
+        ensures { result.now ≡ map (λ s. s.kind) self.now.shapes }
+    {
+        self.kinds.as_slice()
     }
 
     // The amounts of the tiles, row by row.
@@ -186,5 +194,24 @@ impl Standing {
             } => self.add_fill(column, row, amount),
             Form::End => self.turn = Turn::Done,
         }
+    }
+}
+
+// What stands once more. It takes no memory, so that it never fails.
+impl Clone for Standing {
+    ghost is_clone = { λ x y. y ≡ x };
+
+    ghost is_infallible = { λ _. ⊤ };
+
+    fn clone(&self) -> Result<Standing, AllocError> {
+        Ok(Standing {
+            turn: self.turn,
+            head: self.head,
+            rects: self.rects.clone()?,
+            kinds: self.kinds.clone()?,
+            regions: self.regions.clone()?,
+            amounts: self.amounts,
+            near: self.near,
+        })
     }
 }

@@ -9,7 +9,8 @@ mod near;
 
 pub use fault::Fault;
 pub use filling::plan_of;
-pub use held::Standing;
+pub use held::{AMOUNTS_ROOM, Standing, no_head, tile_place};
+pub use near::{Near, part_for};
 
 // What a file has come to: nothing yet, its shapes, its fills, its end.
 #[derive(Clone, Copy)]

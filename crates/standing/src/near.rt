@@ -14,14 +14,14 @@ use spacing::Region;
 // The part of the table of regions that is enough for a row of tiles, that of the
 // last fill: most fills come row by row.
 #[derive(Clone, Copy)]
-pub(crate) struct Near {
+pub struct Near {
     pub row: u64,
     pub part: Part,
 }
 
 // The part of the table that is enough for the tiles of a row: the one at hand, if
 // it is that row's, else all of the table.
-pub(crate) fn part_for(near: Option<Near>, row: u64, all: usize) -> Part
+pub fn part_for(near: Option<Near>, row: u64, all: usize) -> Part
     ensures { result ≡ part_for near row all }
 {
     match near {

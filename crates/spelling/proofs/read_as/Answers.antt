@@ -1,5 +1,5 @@
 -- The invariant: the numbers found so far, in front of what the rest of the pattern reads in the rest of the line, are what the whole reads.
-use Rattle.std.proofs.Common.{arith, sym, ◌∙◌}
+use Rattle.std.proofs.Common.{sym, ◌∙◌}
 use borrow.Author.Tests.{eqb-true, eqb-false}
 use Rattle.spelling.proofs.Progress.{number_left, number_missing, number_read, byte_missing, byte_read, bytes_left, all_read}
 use Rattle.spelling.proofs.read_as.Goals as goal
@@ -10,7 +10,7 @@ returns-in_err-value g c =
     c.from_residual.ensures ∙ number_missing c.loop-c.invariant c.loop-c-test.true c.if-c-eq35.true (sym c.in_err-value.ensures.is_number)
 
 pub bounds-values-count : goal.bounds-values-count
-bounds-values-count g c = omega (arith, number_left c.loop-c.invariant c.loop-c-test.true c.if-c-eq35.true, c.requires.numbers)
+bounds-values-count g c = number_left c.loop-c.invariant c.loop-c-test.true c.if-c-eq35.true
 
 pub returns-in_err-rest : goal.returns-in_err-rest
 returns-in_err-rest g c =

@@ -3,4 +3,4 @@ use Rattle.spelling.proofs.Progress.{ReadTo}
 use Rattle.spelling.proofs.read_as.Given as goal
 
 abbrev pub invariant-loop-c : goal.invariant-loop-c
-invariant-loop-c g l = ReadTo l.most l.pattern l.line l.values l.count l.c-index l.rest
+invariant-loop-c g l = ReadTo l.most g.row.N l.pattern l.line l.values l.count l.c-index l.rest
