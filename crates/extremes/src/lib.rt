@@ -18,6 +18,7 @@ ghost use Rattle.geometry.specs.Extreme.{spot_at};
 ghost use Rattle.geometry.specs.Positions.{window_area};
 ghost use Rattle.extremes.specs.Exact.{extreme, exact_run};
 
+use arrayvec::ArrayVec;
 use geometry::{Rect, Sense, Spot};
 use search::{Row, Search};
 use sweep::{Sorted, Strip};
@@ -52,7 +53,8 @@ fn find_extreme(sorted: &Sorted<'_>, n: u64, w: u64, sense: Sense) -> Spot
     let search = Search { sense, w, last };
     let mut strip = Strip::new(sorted);
     let mut best = first_window(sorted.rects, w);
-    let rows = listing::list_rows(sorted.rects, search);
+    let mut rows = ArrayVec::new();
+    listing::list_rows(sorted.rects, search, &mut rows);
     for &y in rows.as_slice() {
         strip.set_rows(y, y + w);
         let row = Row {

@@ -1,5 +1,5 @@
 // The rows that are tried.
-ghost use Rattle.std.specs.Prelude.{◌+◌, ◌<◌, ◌≤◌, ◌≡◌, length, All};
+ghost use Rattle.std.specs.Prelude.{◌+◌, ◌<◌, ◌≤◌, ◌≡◌, [], length, All};
 ghost use Rattle.arrayvec.specs.ArrayVec.{array_vec_len};
 ghost use Rattle.geometry.specs.Sizes.{most_rects};
 ghost use Rattle.extremes.specs.Listing.{near_of, far_of, with_position, with_end, with_sides, candidates};
@@ -54,17 +54,16 @@ fn add_sides(rows: &mut ArrayVec<u64, ROWS_ROOM>, r: Rect, search: Search)
     add_end(rows, far, search.w, search.last);
 }
 
-// Lists the rows that are tried.
-pub(crate) fn list_rows(rects: &[Rect], search: Search) -> ArrayVec<u64, ROWS_ROOM>
-    requires { length rects.now ≤ most_rects }
-    ensures rows { result.items ≡ candidates search.sense search.last search.w rects.now }
-    ensures within { All (λ y. y ≤ search.last) result.items }
+// Lists the rows that are tried, in an empty list.
+pub(crate) fn list_rows(rects: &[Rect], search: Search, rows: &mut ArrayVec<u64, ROWS_ROOM>)
+    requires few { length rects.now ≤ most_rects }
+    requires empty { rows.old.items ≡ [] }
+    ensures rows { rows.new.items ≡ candidates search.sense search.last search.w rects.now }
+    ensures within { All (λ y. y ≤ search.last) rows.new.items }
 {
-    let mut rows = ArrayVec::new();
     rows.push(0);
-    add_position(&mut rows, search.last, search.last);
+    add_position(rows, search.last, search.last);
     for &r in rects {
-        add_sides(&mut rows, r, search);
+        add_sides(rows, r, search);
     }
-    rows
 }

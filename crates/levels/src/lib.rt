@@ -15,7 +15,7 @@ ghost use Rattle.levels.specs.Passing.{Passable, flags_in_rows};
 pub use flags::{Flags, MOST_FLAGS, flag_count};
 use geometry::Spot;
 pub use grid::Grid;
-use sweep::Sorted;
+use sweep::{Sorted, Strip};
 
 // A level: the window named; the limit, that is the far end of the bracket,
 // which no window passes: the best area of a bloated window for the greatest,
@@ -52,11 +52,12 @@ pub fn search_level(
     ensures value { result ≡ level_of g.sense sorted.now.rects.now g.size g.window g.step before }
     ensures after { new.new ≡ flags_in_rows g.sense result.named.area (far_on g sorted.now.rects.now) g.step (starts_on g.size g.window g.step) (starts_on g.size g.window g.step) new.old }
 {
-    let named = passes::rows(sorted, flags, new, g, before);
+    let mut strip = Strip::new(sorted);
+    let named = passes::rows(&mut strip, flags, new, g, before);
     let start = Level {
         named,
         limit: named.area,
         kept: 0,
     };
-    passes::rows(sorted, flags, new, g, start)
+    passes::rows(&mut strip, flags, new, g, start)
 }

@@ -17,7 +17,7 @@ use crate::flags::{Flags, put_flag};
 use crate::spans::{span_from, span_to};
 use crate::{Grid, Level};
 use geometry::{Sense, Spot};
-use sweep::{Sorted, Strip, Sweep};
+use sweep::{Strip, Sweep};
 
 // A pass, by what it carries along.
 pub(crate) trait Pass: Copy {
@@ -167,28 +167,28 @@ fn row<P: Pass>(
     so_far
 }
 
-// All rows.
+// All rows. The strip is the caller's, whose rows are set anew for each.
 pub(crate) fn rows<P: Pass>(
-    sorted: &Sorted<'_>,
+    strip: &mut Strip<'_>,
     flags: Flags<'_>,
     new: &mut [bool],
     g: Grid,
     before: P,
 ) -> P
-    requires passable { Passable sorted.now.rects.now g flags.table.now flags.stride (P.best before) }
+    requires passable { Passable strip.old.sorted.now.rects.now g flags.table.now flags.stride (P.best before) }
     requires few { P.counted before ≡ 0 }
     requires able { P.Able g.sense before }
-    ensures { (result, new.new) ≡ rows_seen (P.looked g.sense) (far_area g.sense sorted.now.rects.now g.size g.window (P.reach g.step)) g.step g.starts g.starts (before, new.old) }
+    ensures sorted { strip.new.sorted.now ≡ strip.old.sorted.now }
+    ensures seen { (result, new.new) ≡ rows_seen (P.looked g.sense) (far_area g.sense strip.old.sorted.now.rects.now g.size g.window (P.reach g.step)) g.step g.starts g.starts (before, new.old) }
 {
     let reach = P::reach(g.step);
-    let mut strip = Strip::new(sorted);
     let mut so_far = before;
     for j in 0..g.starts {
         let y = j * g.step;
         let first = span_from(g.sense, reach, y);
         let last = span_to(g.sense, g.size, g.window, reach, y);
         strip.set_rows(first, last);
-        so_far = row(&strip, flags, new, g, j, so_far);
+        so_far = row(strip, flags, new, g, j, so_far);
     }
     so_far
 }

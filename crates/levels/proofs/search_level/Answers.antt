@@ -12,18 +12,21 @@ pub rows-requires-clause-passable : goal.rows-requires-clause-passable
 rows-requires-clause-passable c =
     let a = c.args in
     let rs = a.sorted.now.rects.now in
-    harmless_on a.g.sense rs a.g a.flags.table.now a.flags.stride a.before _ (first_names rs a.g a.before _ _ _ c.rows-named.ensures) c.requires.passable
+    rw (c.rows-named.ensures.sorted, c.new-strip.ensures)
+    (harmless_on a.g.sense rs a.g a.flags.table.now a.flags.stride a.before _
+    (first_names rs a.g a.before _ _ _ (rw c.new-strip.ensures at c.rows-named.ensures.seen)) c.requires.passable)
 
 pub returns : goal.returns
 returns c =
     let a = c.args in
     let rs = a.sorted.now.rects.now in
     let first = c.rows-named in
+    let seen = rw c.new-strip.ensures at first.ensures.seen in
     let start : List Bool → Level × List Bool = λ l. (record { named = first.result; limit = first.result.area; kept = 0 }, l) in
     let done =
     level_done a.g.sense rs a.g a.before first.result c.rows.result a.new.now _ c.requires.at_start
-    (first_names rs a.g a.before _ _ _ first.ensures)
-    (c.rows.ensures
+    (first_names rs a.g a.before _ _ _ seen)
+    (rw (first.ensures.sorted, c.new-strip.ensures) at c.rows.ensures.seen
     ∙ ap (λ (l : List Bool). rows_seen (weighed_at a.g.sense) (far_area a.g.sense rs a.g.size a.g.window a.g.step) a.g.step a.g.starts a.g.starts (start l))
-    (first_leaves rs a.g a.before _ _ _ first.ensures)) in
+    (first_leaves rs a.g a.before _ _ _ seen)) in
     record { value = done.answer; after = done.flags }
