@@ -57,7 +57,6 @@ next_place [] ps i h e = absurd (omega arith)
 -- what one of them holds they hold
 held_at : (t : List Region) (ps : List ℕ) (k p : ℕ) (c : Region) (x y : ℕ) → k < length ps → get_or ps k p ≡ p → At t p c → holds_square c x y ≡ true →
     held_by (at_places t ps) x y ≡ true
-unfolding held_by
 held_at t [] k p c x y h e f g = absurd (omega arith)
 held_at t (q ∷ ps) zero p c x y h e f g = rw (e, f) (ap (λ (u : Bool). u || held_by (at_places t ps) x y) g)
 held_at t (q ∷ ps) (suc k) p c x y h e f g = go (slice_get t q) refl (held_at t ps k p c x y (omega arith) e f g)
@@ -73,7 +72,7 @@ held_in t ps p c x y h f g = held_at t ps h.0 p c x y h.1 h.2 f g
 -- one that covers a box holds all of it
 pub covered_by : (t : List Region) (ps : List ℕ) (i : ℕ) (r : Region) (b : Rect) → i < length ps → At t (get_or ps i 0) r → covers_box r b ≡ true →
     AgreeOn b (held_by (at_places t ps)) (λ x y. true)
-covered_by t ps i r b h e f x y p q u s = held_in t ps (get_or ps i 0) r x y (Contains-get_or ps i 0 h) e (all_held r b f x y p q u s)
+covered_by t ps i r b h e f x y p q u s = held_in t ps (get_or ps i 0) r x y (Contains-get_or ps i 0 h) e (all_held r.core r.reach b f x y p q u s)
 
 -- ---- the places that are kept for a box
 
@@ -180,15 +179,15 @@ module _ (l : Left) (lead : ℕ) (c : Region) (own : List ℕ) (i : ℕ) (z : Ke
 
     pub keeping_far : is_near r b ≡ false → KeptSoFar l lead c own (i + 1)
     keeping_far e =
-        passed (λ x y p' q s u k. absurd (true_false (holds_square r x y) k (none_held r b e x y p' q s u)))
-        (λ m x y p' q s u k. sym (none_held r b e x y p' q s u) ∙ ap (λ (g : Region). holds_square g x y) (same m) ∙ k)
+        passed (λ x y p' q s u k. absurd (true_false (holds_square r x y) k (none_held r.core r.reach b e x y p' q s u)))
+        (λ m x y p' q s u k. sym (none_held r.core r.reach b e x y p' q s u) ∙ ap (λ (g : Region). holds_square g x y) (same m) ∙ k)
       where
         same : lead ≡ p → r ≡ c
         same m = at_same t p r c here (rw m at there)
 
     pub keeping_spare : is_spare p lead r c b ≡ true → KeptSoFar l lead c own (i + 1)
     keeping_spare e =
-        passed (idle_held r c b l.full tests.1) (λ m. absurd (true_false (eqb p lead) (eq-eqb p lead (sym m)) (not-true (eqb p lead) tests.0)))
+        passed (idle_held r.core r.reach c.core c.reach b c.small l.full tests.1) (λ m. absurd (true_false (eqb p lead) (eq-eqb p lead (sym m)) (not-true (eqb p lead) tests.0)))
       where
         tests : (not (eqb p lead) ≡ true) × (is_idle r c b ≡ true)
         tests = both (not (eqb p lead)) (is_idle r c b) e
@@ -205,7 +204,7 @@ module _ (l : Left) (lead : ℕ) (c : Region) (own : List ℕ) (i : ℕ) (z : Ke
               ∙ or_last (held_by (at_places t (take i ps)) x y) (holds_square r x y) (holds_square c x y)
               ∙ ap (λ (v : Bool). v || holds_square c x y) (sym (held_seen x y));
           led = λ k x y p' q s u o. held_more own x y ∙ go (led_here k) x y p' q s u o;
-          divisible = λ k. some_held r b l.full.across l.full.up e f;
+          divisible = λ k. some_held r.core r.reach b l.full.across l.full.up e f;
         }
       where
         go : Contains (take i ps) lead ⊎ (lead ≡ p) → HoldsIn b (holds_square c) (λ x y. held_by (at_places t own) x y || holds_square r x y)

@@ -19,7 +19,7 @@ use Rattle.free.specs.Free.{held_by, free_in}
 
 -- the regions of shapes hold what is held for the shapes
 held_shapes : (t : List Region) (ks : List Keepout) (x y : ℕ) → AllZip IsRegionOf ks t → held_by t x y ≡ held_for ks x y
-unfolding held_by held_for
+unfolding held_for
 held_shapes [] [] x y e = refl
 held_shapes [] (k ∷ ks) x y e = absurd e
 held_shapes (r ∷ t) [] x y e = absurd e

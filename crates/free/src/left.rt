@@ -58,7 +58,7 @@ impl<'a> Left<'a> {
                 if r.covers_box(self.bounds) {
                     return None;
                 }
-                if !r.is_spare(place, lead, c, self.bounds) {
+                if !r.is_spare(usize::from(place), usize::from(lead), c, self.bounds) {
                     own.push(place);
                 }
             }

@@ -66,7 +66,7 @@ impl Region {
 
     // The same where this is the region at place i of a table, and c the one at place
     // `lead`, which does not make itself idle.
-    pub fn is_spare(self, i: u16, lead: u16, c: Region, b: Rect) -> bool
+    pub fn is_spare(self, i: usize, lead: usize, c: Region, b: Rect) -> bool
         requires { SmallBox b }
         ensures { result ≡ is_spare i lead self c b }
     {

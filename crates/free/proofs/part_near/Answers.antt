@@ -1,8 +1,8 @@
-use Rattle.free.proofs.NearParts.{part_serves, none_serves}
+use Rattle.free.proofs.NearParts.{near_serves, none_serves}
 use Rattle.free.proofs.part_near.Goals as goal
 
 pub returns-in-Some-Some : goal.returns-in-Some-Some
-returns-in-Some-Some c = part_serves _ _ _ _ c.in-Some-Some.ensures c.in-Some-Some.ensures'
+returns-in-Some-Some c = near_serves _ _ _ _ c.in-Some-Some.ensures c.in-Some-Some.ensures'
 
 pub returns-in_default : goal.returns-in_default
 returns-in_default c = none_serves _ _ c.in_default.ensures'

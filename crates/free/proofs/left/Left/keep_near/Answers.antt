@@ -20,7 +20,7 @@ loop-place-preserved c =
       | then-is_near+else-covers_box+then-not-is_spare w ↦ rw (w.own-is, w.push.ensures.items)
           (keeping_one l _ c.region-c.result _ _ z there within r here (sym c.is_near.ensures ∙ w.if-is_near.true) (sym w.covers_box.ensures ∙ w.if-covers_box.false))
       | then-is_near+else-covers_box+else-not-is_spare w ↦ rw w.own-is
-          (keeping_spare l _ c.region-c.result _ _ z there within r here (sym w.is_spare.ensures ∙ w.if-not-is_spare.false))
+          (keeping_spare l _ c.region-c.result _ _ z there within r here (rw (w.from.ensures, w.from-then-is_near.ensures) at (sym w.is_spare.ensures ∙ w.if-not-is_spare.false)))
       | else-is_near w ↦ rw w.own-is (keeping_far l _ c.region-c.result _ _ z there within r here (sym c.is_near.ensures ∙ w.if-is_near.false))
     ]
 
