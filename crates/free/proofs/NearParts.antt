@@ -1,6 +1,6 @@
 -- Regions that do not come near a box: they may be left out of what holds its squares, so that a part of the table is enough for it. What is said of
 -- cores and reaches is said of all, of whatever size and however a table has them.
-use Prim.Native.Nat.{ℕ, suc, ◌+◌, ◌-◌, ◌≤◌, ◌<◌}
+use Prim.Native.Nat.{ℕ, ◌+◌, ◌-◌, ◌≤◌, ◌<◌}
 use mathlib.Core.Path.{◌≡◌, sym, ap, ◌∙◌}
 use mathlib.Core.Bool.{Bool, false, ◌||◌, or-false}
 use mathlib.Core.List.{List, [], ◌∷◌}
