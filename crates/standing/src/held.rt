@@ -28,7 +28,7 @@ pub const AMOUNTS_ROOM: usize = (MOST_TILES * MOST_TILES) as usize;
 
 // What stands while a job file is read, as standing/specs/Faults defines it. Rectangles
 // and regions are tables of their own, since areas are formed of the ones and fillable
-// areas of the others, and kinds are told by no test.
+// areas of the others, and no test looks at kinds.
 #[derive(Drop)]
 pub struct Standing {
     turn: Turn,

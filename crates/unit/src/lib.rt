@@ -14,9 +14,9 @@ ghost use Rattle.unit.specs.Guarantee.{Guarantee, Reported};
 pub use answers::ANSWER_ROOM;
 use answers::{Text, write_line};
 use arrayvec::ArrayVec;
-use jobfile::Refusal;
+pub use jobfile::Refusal;
 use render::render;
-use standing::Fault;
+pub use standing::Fault;
 
 // Copies a text to the front of a buffer, and gives its length.
 fn copy_front(text: &Text, out: &mut [u8]) -> usize
