@@ -3,7 +3,7 @@ use Rattle.std.specs.Prelude.{ℕ, suc, ◌*◌, ◌≤◌}
 use Rattle.geometry.specs.Sizes.{widest, largest}
 use Rattle.levels.specs.declared.Level.{Level}
 
--- the places of a table of flags, as `MOST_FLAGS` in src/lib.rt
+-- the places of a table of flags, as `MOST_FLAGS` in src/flags.rt
 abbrev pub flags_room : ℕ
 flags_room = 505 * 505
 

@@ -10,6 +10,20 @@ use crate::{Corners, Parts, Patch};
 use geometry::{Cut, Rect};
 
 impl Corners {
+    // With those of something else added.
+    pub fn plus(self, u: Corners) -> Corners
+        requires small_corners { SmallCorners self }
+        requires small_corners_2 { SmallCorners u }
+        ensures { result ≡ corner_sum self u }
+    {
+        Corners {
+            southwest: self.southwest + u.southwest,
+            southeast: self.southeast + u.southeast,
+            northwest: self.northwest + u.northwest,
+            northeast: self.northeast + u.northeast,
+        }
+    }
+
     pub fn least(self) -> u64
         ensures { result ≡ least_corner self }
     {
@@ -56,15 +70,9 @@ impl Patch {
         ensures extent { result.extent ≡ self.extent }
         ensures corners { result.corners ≡ corner_sum self.corners u }
     {
-        let v = self.corners;
         Patch {
             extent: self.extent,
-            corners: Corners {
-                southwest: v.southwest + u.southwest,
-                southeast: v.southeast + u.southeast,
-                northwest: v.northwest + u.northwest,
-                northeast: v.northeast + u.northeast,
-            },
+            corners: self.corners.plus(u),
         }
     }
 
