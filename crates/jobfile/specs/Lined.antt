@@ -1,5 +1,5 @@
 -- What the reader makes of a line, and how it tells a file's outcome. A buyer need not read it: no contract of the unit's public functions names it.
-use Rattle.std.specs.Prelude.{ℕ, ◌+◌, ◌≡◌, true, false, List, ltb, length, take, Result, Ok, Err, IfOk, OnOk, OnErr}
+use Rattle.std.specs.Prelude.{ℕ, ◌+◌, ◌≡◌, true, false, List, ltb, length, take, Result, Ok, Err, IfOk, OnOk, OnErr, ⊤}
 use Rattle.spelling.specs.Scanning.{line_length}
 use Rattle.forms.specs.Limits.{Limits, unit_limits}
 use Rattle.lines.specs.Reading.{form_of}
@@ -24,7 +24,12 @@ pub record LineRead (rest : List ℕ) (st : Standing) (r : Result ℕ Fault) (st
   pub good : OnOk r (st' ≡ stands_after st (form_of unit_limits (first_line rest)))
   pub bad : OnErr r (st' ≡ st)
 
--- the outcome that the reader tells
+-- the outcome that the reader tells, by whether it refuses and what stands then
+abbrev pub told_by : Result ⊤ Refusal → Standing → Outcome
+told_by (Ok u) st = accepted st
+told_by (Err e) st = refused (fault_number e.fault) e.line
+
+-- the same where what stands comes with it
 abbrev pub told : Result Standing Refusal → Outcome
 told (Ok st) = accepted st
 told (Err e) = refused (fault_number e.fault) e.line

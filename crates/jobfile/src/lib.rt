@@ -6,7 +6,7 @@ ghost use Rattle.spelling.specs.Text.{pieces};
 ghost use Rattle.forms.specs.Limits.{unit_limits};
 ghost use Rattle.standing.specs.Faults.{before_head};
 ghost use Rattle.jobfile.specs.File.{outcome_of, read_lines};
-ghost use Rattle.jobfile.specs.Lined.{LineRead, told};
+ghost use Rattle.jobfile.specs.Lined.{LineRead, told_by, told};
 
 use faults::check_line;
 use forms::MOST_BYTES;
@@ -38,15 +38,15 @@ fn read_line(rest: &[u8], s: &mut Standing) -> Result<usize, Fault>
 }
 
 // Reads all lines of a file that is not too long.
-fn read_lines(file: &[u8]) -> Result<Standing, Refusal>
-    requires { length file.now ≤ unit_limits.bytes }
-    ensures { told result ≡ read_lines unit_limits before_head 1 (pieces file.now) }
+fn read_lines(file: &[u8], s: &mut Standing) -> Result<(), Refusal>
+    requires few { length file.now ≤ unit_limits.bytes }
+    requires start { s.old ≡ before_head }
+    ensures { told_by result s.new ≡ read_lines unit_limits before_head 1 (pieces file.now) }
 {
-    let mut s = Standing::new();
     let mut line = 1;
     let mut rest = file;
     while !rest.is_empty() {
-        match read_line(rest, &mut s) {
+        match read_line(rest, s) {
             Ok(used) => {
                 rest = &rest[used..];
                 line += 1;
@@ -55,7 +55,7 @@ fn read_lines(file: &[u8]) -> Result<Standing, Refusal>
         }
     }
     match s.turn() {
-        Turn::Done => Ok(s),
+        Turn::Done => Ok(()),
         _ => Err(Refusal {
             fault: Fault::NoEnd,
             line,
@@ -63,13 +63,13 @@ fn read_lines(file: &[u8]) -> Result<Standing, Refusal>
     }
 }
 
-// Reads a job file: what stands at its end, or what it is refused for. Not inlined:
-// what stands is large, and the reader's copies of it are not to stay on the stack
-// while the job runs.
-#[inline(never)]
+// Reads a job file into what stands before its first line: what stands at its end, or
+// what it is refused for; then what stood before that line is left. What stands is
+// lent, since it is large.
 #[tactic(auto, unfolding(crate::specs::File::outcome_of))]
-pub fn read(file: &[u8]) -> Result<Standing, Refusal>
-    ensures { told result ≡ outcome_of unit_limits file.now }
+pub fn read_into(file: &[u8], s: &mut Standing) -> Result<(), Refusal>
+    requires { s.old ≡ before_head }
+    ensures { told_by result s.new ≡ outcome_of unit_limits file.now }
 {
     if MOST_BYTES < file.len() {
         return Err(Refusal {
@@ -77,5 +77,14 @@ pub fn read(file: &[u8]) -> Result<Standing, Refusal>
             line: 0,
         });
     }
-    read_lines(file)
+    read_lines(file, s)
+}
+
+// The same, with what stands at the end handed back.
+pub fn read(file: &[u8]) -> Result<Standing, Refusal>
+    ensures { told result ≡ outcome_of unit_limits file.now }
+{
+    let mut s = Standing::new();
+    read_into(file, &mut s)?;
+    Ok(s)
 }

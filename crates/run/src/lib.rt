@@ -82,5 +82,7 @@ pub fn run(head: Head, rects: &[Rect], amounts: &[u64]) -> Answer
     requires { Ready head rects.now amounts.now }
     ensures { result ≡ answer_for head rects.now amounts.now }
 {
-    run_sorted(head, &Sorted::of(rects), amounts)
+    let mut sorted = Sorted::new();
+    sorted.sort(rects);
+    run_sorted(head, &sorted, amounts)
 }

@@ -25,8 +25,7 @@ fn render_job(job: &Standing) -> Text
 pub(crate) fn render(file: &[u8]) -> Result<Text, Refusal>
     ensures { Rendering (outcome_of unit_limits file.now) result }
 {
-    match &jobfile::read(file) {
-        Ok(job) => Ok(render_job(job)),
-        Err(refusal) => Err(*refusal),
-    }
+    let mut job = Standing::new();
+    jobfile::read_into(file, &mut job)?;
+    Ok(render_job(&job))
 }

@@ -4,4 +4,4 @@ use Rattle.unit.proofs.Accepting.{accepted_readable}
 use Rattle.unit.proofs.render.render.Goals as goal
 
 pub render_job-requires : goal.render_job-requires
-render_job-requires c = accepted_readable c.args.file.now _ (sym (rw c.in-Ok.is at c.read.ensures))
+render_job-requires c = accepted_readable c.args.file.now _ (sym c.in_ok-read_into.ensures)
