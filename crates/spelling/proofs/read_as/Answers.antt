@@ -1,4 +1,4 @@
--- The invariant: the numbers found so far, in front of what the rest of the pattern reads in the rest of the line, are what the whole reads.
+-- The invariant: the numbers found so far, zeros behind them in the table, are in front of what the rest of the pattern reads in the rest of the line what the whole reads.
 use Rattle.std.proofs.Common.{sym, ◌∙◌}
 use borrow.Author.Tests.{eqb-true, eqb-false}
 use Rattle.spelling.proofs.Progress.{number_left, number_missing, number_read, byte_missing, byte_read, bytes_left, all_read}

@@ -1,4 +1,4 @@
--- The invariant: the numbers found so far, in front of what the rest of the pattern reads in the rest of the line, are what the whole reads.
+-- The invariant: the numbers found so far, zeros behind them in the table, are in front of what the rest of the pattern reads in the rest of the line what the whole reads.
 use Rattle.spelling.proofs.Progress.{ReadTo}
 use Rattle.spelling.proofs.read_as.Given as goal
 
