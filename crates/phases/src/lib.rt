@@ -125,8 +125,8 @@ fn job_phase(phase: u64, job: &Standing) -> u64
 pub fn density_phase(file: &[u8], phase: u64) -> u64
     ensures { result ≡ phase_of phase (outcome_of unit_limits file.now) }
 {
-    match &jobfile::read(file) {
-        Ok(job) => job_phase(phase, job),
+    match jobfile::read(file) {
+        Ok(job) => job_phase(phase, &job),
         Err(_) => 0,
     }
 }
