@@ -19,7 +19,7 @@ use Rattle.geometry.proofs.Totals.{small_product}
 use Rattle.sweep.specs.declared.Upright.{Upright}
 use Rattle.sweep.specs.declared.cursors.Cursor.{Cursor}
 use Rattle.sweep.specs.declared.cursors.Edges.{Edges}
-use Rattle.sweep.specs.Strips.{ramps, strip_sum, SmallUpright, Sides, IsStrip, StripOf}
+use Rattle.sweep.specs.Strips.{ramps, strip_sum, SmallUpright, Sides, IsStrip}
 use Rattle.sweep.specs.declared.frames.Frame.{Frame}
 use Rattle.sweep.specs.declared.strips.Strip.{Strip}
 use Rattle.sweep.specs.Sweeps.{strip_area}
@@ -235,10 +235,13 @@ start_is lows highs s =
 
 -- ---- the true area, and where a box may move
 
--- right sums give the true area, in whichever order the columns stand: so `Behind` asks no more by its second field than by its first
-pub true_area : (lows highs : List Upright) (f : Frame) (left right : ℕ) → f ≡ frame_at lows highs left right → TrueArea lows highs f
-true_area lows highs f left right e =
-    subst (TrueArea lows highs) (sym e) (record { counted = λ rects y1 y2 s. counted_at rects y1 y2 s (le_or_lt left right) })
+pub true_area : (lows highs : List Upright) (f : Frame) (left right : ℕ) → f ≡ frame_at lows highs left right → left ≤ right → TrueArea lows highs f
+true_area lows highs f left right e h =
+    subst (TrueArea lows highs) (sym e) (record { counted = λ rects y1 y2 areas. areas left right h })
+
+-- along a strip right sums alone give the true area, in whichever order the columns stand: `Behind` asks no more by its second field than by its first
+pub area_follows : (lows highs : List Upright) (f : Frame) (left right : ℕ) → IsStrip lows highs → f ≡ frame_at lows highs left right → TrueArea lows highs f
+area_follows lows highs f left right s e = go (le_or_lt left right)
   where
     between : (y1 y2 : ℕ) → Rect
     between y1 y2 = record { x1 = left; y1 = y1; x2 = right; y2 = y2 }
@@ -247,10 +250,11 @@ true_area lows highs f left right e =
     nothing rects y1 y2 h =
         box_cong (between y1 y2) (λ x y. one_if (covered rects x y)) (λ x y. 0) (λ x y z. absurd (omega (arith, z.left, z.right))) ∙ box_zero (between y1 y2)
 
-    counted_at : (rects : List Rect) (y1 y2 : ℕ) → StripOf rects y1 y2 lows highs → (left ≤ right) ⊎ (right < left) →
-        strip_sum lows highs left right ≡ covered_area rects (between y1 y2)
-    counted_at rects y1 y2 s (inl h) = s.areas left right h
-    counted_at rects y1 y2 s (inr h) = omega (arith, s.strip.grows right left (omega arith), nothing rects y1 y2 h)
+    go : (left ≤ right) ⊎ (right < left) → TrueArea lows highs f
+    go (inl h) = true_area lows highs f left right e h
+    go (inr h) =
+        subst (TrueArea lows highs) (sym e)
+        (record { counted = λ rects y1 y2 areas. omega (arith, s.grows right left (omega arith), nothing rects y1 y2 h) })
 
 -- it is not right of any columns at first, and of none further right; where it was moved to, it is not right of columns from there on
 module _ (lows highs : List Upright) (f : Frame) where
@@ -266,7 +270,7 @@ module _ (lows highs : List Upright) (f : Frame) where
   pub behind_start : (left right : ℕ) → IsStrip lows highs → f ≡ start_frame → Behind lows highs f left right
   behind_start left right s e =
       let start = e ∙ start_is lows highs s in
-      behind_moved 0 0 left right start (true_area lows highs f 0 0 start) (omega arith) (omega arith)
+      behind_moved 0 0 left right start (area_follows lows highs f 0 0 s start) (omega arith) (omega arith)
 
   pub behind_later : (left right l r : ℕ) → Behind lows highs f left right → left ≤ l → right ≤ r → Behind lows highs f l r
   behind_later left right l r b h k =
@@ -295,4 +299,4 @@ module _ (s : Strip) (f : Frame) (lows highs : List Upright) (e : lows ≡ s.low
     pub sweep_area : f.area ≡ strip_area s left right
     sweep_area =
         subst₂ (λ (l r : ℕ). f.area ≡ strip_area s l r) at_left at_right
-        ((rw (e, h) at t).counted s.sorted.now.rects.now s.y1 s.y2 s.strip)
+        ((rw (e, h) at t).counted s.sorted.now.rects.now s.y1 s.y2 s.strip.areas)

@@ -8,7 +8,7 @@ use Rattle.sweep.specs.declared.Upright.{Upright}
 use Rattle.sweep.specs.declared.cursors.Cursor.{Cursor}
 use Rattle.sweep.specs.declared.cursors.Edges.{Edges}
 use Rattle.sweep.specs.declared.frames.Frame.{Frame}
-use Rattle.sweep.specs.Strips.{side_sum, ramps, strip_sum, StripOf}
+use Rattle.sweep.specs.Strips.{side_sum, ramps, strip_sum, AreasAlong}
 
 -- the sum of g over the sides left of column x
 abbrev pub left_sum : (ℕ → ℕ → ℕ) → List Upright → ℕ → ℕ
@@ -51,8 +51,9 @@ abbrev pub start_frame : Frame
 start_frame = record { left = 0; right = 0; area = 0; low = no_edges; high = no_edges }
 
 -- the area of a box of a strip is the true one: the covered squares between its columns, in every layout and between every two rows whose strip it is
+-- (`StripOf`), or whose areas the two lists add up to in another order
 pub record TrueArea (lows highs : List Upright) (f : Frame) : Type 0 where
-  pub counted : (rects : List Rect) (y1 y2 : ℕ) → StripOf rects y1 y2 lows highs →
+  pub counted : (rects : List Rect) (y1 y2 : ℕ) → AreasAlong rects y1 y2 lows highs →
       f.area ≡ covered_area rects (record { x1 = f.left; y1 = y1; x2 = f.right; y2 = y2 })
 
 -- a box of a strip has the true sums and the true area, and is not right of the columns `left` and `right`

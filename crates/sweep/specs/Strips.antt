@@ -48,9 +48,14 @@ pub record IsStrip (lows highs : List Upright) : Type 0 where
   pub high : Sides highs
   pub grows : (x1 x2 : ℕ) → x1 ≤ x2 → ramps lows x1 + ramps highs x2 ≤ ramps lows x2 + ramps highs x1
 
+-- what is added up along two lists of sides is the true area of every box between the rows y1 and y2
+abbrev pub AreasAlong : List Rect → (y1 y2 : ℕ) → (lows highs : List Upright) → Type 0
+AreasAlong rects y1 y2 lows highs =
+    (x1 x2 : ℕ) → x1 ≤ x2 → strip_sum lows highs x1 x2 ≡ covered_area rects (record { x1 = x1; y1 = y1; x2 = x2; y2 = y2 })
+
 -- the strip of the rows y1 to y2: its two lists, and that what is added up along it is the true area of every box between those rows
 pub record StripOf (rects : List Rect) (y1 y2 : ℕ) (lows highs : List Upright) : Type 0 where
   pub low : lows ≡ strip_sides (ordered Low rects) Low y1 y2
   pub high : highs ≡ strip_sides (ordered High rects) High y1 y2
   pub strip : IsStrip lows highs
-  pub areas : (x1 x2 : ℕ) → x1 ≤ x2 → strip_sum lows highs x1 x2 ≡ covered_area rects (record { x1 = x1; y1 = y1; x2 = x2; y2 = y2 })
+  pub areas : AreasAlong rects y1 y2 lows highs
