@@ -64,8 +64,7 @@ fn read_lines(file: &[u8], s: &mut Standing) -> Result<(), Refusal>
 }
 
 // Reads a job file into what stands before its first line: what stands at its end, or
-// what it is refused for; then what stood before that line is left. What stands is
-// lent, since it is large.
+// what it is refused for. What stands is lent, since it is large.
 #[tactic(auto, unfolding(crate::specs::File::outcome_of))]
 pub fn read_into(file: &[u8], s: &mut Standing) -> Result<(), Refusal>
     requires { s.old ≡ before_head }
