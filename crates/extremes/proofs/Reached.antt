@@ -10,7 +10,7 @@ use native.Mathlib.Nat.{add-zero}
 use native.Mathlib.Decide.{ℕ_discrete}
 use native.Mathlib.Omega.{arith}
 use lib.Dec.{leb, eqb}
-use Rattle.std.specs.Prelude.{filter}
+use Rattle.std.specs.Prelude.{filter, IsPermutation}
 use Rattle.std.proofs.lemmas.Bool.{cond_both}
 use Rattle.std.proofs.lemmas.List.Sums.{sum_by-cons}
 use borrow.Author.Tests.{le-leb, leb-true, eq-eqb, ne_eqb}
@@ -24,7 +24,7 @@ use Rattle.sweep.specs.declared.Side.{Side}
 use Rattle.sweep.specs.declared.Side.TheVariants.{Low, High}
 use Rattle.sweep.specs.declared.Upright.{Upright}
 use Rattle.sweep.specs.declared.sorted.Sorted.{Sorted}
-use Rattle.sweep.specs.Order.{column, InOrder}
+use Rattle.sweep.specs.Order.{column}
 use Rattle.sweep.specs.Strips.{side_sum, strip_sides}
 use Rattle.sweep.proofs.Covered.{strip_sum_lem}
 use Rattle.extremes.specs.Listing.{near_of, far_of}
@@ -116,11 +116,11 @@ module _ (m : Sorted) (n w y : ℕ) where
   far s = far_of s lows highs
 
   -- a side of the strip stands where a rectangle with rows in it has one
-  side_listed : (side : Side) (sorted : List Rect) → InOrder side m.rects.now sorted → (shift p : ℕ) → p ≤ n - w →
+  side_listed : (side : Side) (sorted : List Rect) → ∥ IsPermutation m.rects.now sorted ∥₁ → (shift p : ℕ) → p ≤ n - w →
       0 < rect_sum m.rects.now (λ r. at (p + shift) (column side r) (rows r)) → Memᴰ p (positions_of shift (n - w) (strip_sides sorted side y (y + w)))
-  side_listed side sorted o shift p h k =
+  side_listed side sorted all shift p h k =
       positions_complete shift (n - w) p (strip_sides sorted side y (y + w)) h
-      (subst (λ (i : ℕ). 0 < i) (sym (strip_sum_lem m.rects.now sorted side o y (y + w) (at (p + shift)) (λ v. omega arith))) k)
+      (subst (λ (i : ℕ). 0 < i) (sym (strip_sum_lem m.rects.now sorted side all y (y + w) (at (p + shift)) (λ v. omega arith))) k)
 
   near_listed : (s : Sense) (p : ℕ) → p ≤ n - w → 0 < rect_sum m.rects.now (λ r. at p (near_column s r) (rows r)) →
       Memᴰ p (positions_of 0 (n - w) (near s))
@@ -128,13 +128,13 @@ module _ (m : Sorted) (n w y : ℕ) where
     where
       go : (s : Sense) → 0 < rect_sum m.rects.now (λ r. at (p + 0) (near_column s r) (rows r)) →
           Memᴰ p (positions_of 0 (n - w) (near s))
-      go Greatest = side_listed Low m.lows.items m.low 0 p h
-      go Least = side_listed High m.highs.items m.high 0 p h
+      go Greatest = side_listed Low m.lows.items m.low.all 0 p h
+      go Least = side_listed High m.highs.items m.high.all 0 p h
 
   far_listed : (s : Sense) (p : ℕ) → p ≤ n - w → 0 < rect_sum m.rects.now (λ r. at (p + w) (far_column s r) (rows r)) →
       Memᴰ p (positions_of w (n - w) (far s))
-  far_listed Greatest p h = side_listed High m.highs.items m.high w p h
-  far_listed Least p h = side_listed Low m.lows.items m.low w p h
+  far_listed Greatest p h = side_listed High m.highs.items m.high.all w p h
+  far_listed Least p h = side_listed Low m.lows.items m.low.all w p h
 
   sides_listed : (s : Sense) (p : ℕ) → p ≤ n - w → Meets (near_column s) (far_column s) rows w p m.rects.now →
       Memᴰ p (tried_row s w (n - w) m y)

@@ -30,8 +30,8 @@ use Rattle.sweep.specs.declared.Side.{Side}
 use Rattle.sweep.specs.declared.Side.TheVariants.{Low, High}
 use Rattle.sweep.specs.declared.Upright.{Upright}
 use Rattle.sweep.specs.declared.sorted.Sorted.{Sorted}
-use Rattle.sweep.specs.Order.{column, InOrder}
-use Rattle.sweep.specs.Strips.{side_in, strip_sides, side_sum, ramps, SmallUpright, Sides, StripOf}
+use Rattle.sweep.specs.Order.{column}
+use Rattle.sweep.specs.Strips.{side_in, strip_sides, side_sum, ramps, SmallUpright, Sides, IsStrip, AreasAlong, StripOf}
 
 -- ---- the sides that rows hold of sorted rectangles
 
@@ -43,19 +43,20 @@ side_small : (side : Side) (y1 y2 : ℕ) (r : Rect) → SmallSides r → SmallUp
 side_small Low y1 y2 r h = record { column = h.left; rows = omega (arith, h.high) }
 side_small High y1 y2 r h = record { column = omega (arith, h.left, h.right); rows = omega (arith, h.high) }
 
-module _ (rects sorted : List Rect) (side : Side) (o : InOrder side rects sorted) where
+-- all of the rectangles, in any order
+module _ (rects sorted : List Rect) (side : Side) (all : ∥ IsPermutation rects sorted ∥₁) where
   pub sorted_count : length sorted ≡ length rects
-  sorted_count = ∥∥₁_elim o.all (ℕ_set (length sorted) (length rects)) (λ p. length_permutation rects sorted p)
+  sorted_count = ∥∥₁_elim all (ℕ_set (length sorted) (length rects)) (λ p. length_permutation rects sorted p)
 
   sorted_sum : (f : Rect → ℕ) → sum_by f sorted ≡ rect_sum rects f
-  sorted_sum f = ∥∥₁_elim o.all (ℕ_set (sum_by f sorted) (sum_by f rects)) (λ p. sum_by-IsPermutation f rects sorted p) ∙ sym (rect_total f rects)
+  sorted_sum f = ∥∥₁_elim all (ℕ_set (sum_by f sorted) (sum_by f rects)) (λ p. sum_by-IsPermutation f rects sorted p) ∙ sym (rect_total f rects)
 
   sorted_small : All SmallSides rects → All SmallSides sorted
   sorted_small z k d h = record {
-    left = ∥∥₁_elim o.all le_prop (λ p. (each p).left);
-    right = ∥∥₁_elim o.all le_prop (λ p. (each p).right);
-    low = ∥∥₁_elim o.all le_prop (λ p. (each p).low);
-    high = ∥∥₁_elim o.all le_prop (λ p. (each p).high);
+    left = ∥∥₁_elim all le_prop (λ p. (each p).left);
+    right = ∥∥₁_elim all le_prop (λ p. (each p).right);
+    low = ∥∥₁_elim all le_prop (λ p. (each p).low);
+    high = ∥∥₁_elim all le_prop (λ p. (each p).high);
   }
     where
       each : IsPermutation rects sorted → SmallSides (get_or sorted k d)
@@ -65,11 +66,11 @@ module _ (rects sorted : List Rect) (side : Side) (o : InOrder side rects sorted
     abbrev all_sides : List Upright
     all_sides = map (side_in side y1 y2) sorted
 
-    pub strip_sides_lem : Layer rects → Sides (strip_sides sorted side y1 y2)
-    strip_sides_lem d = record {
+    pub strip_sides_lem : IsNonDecreasingBy (column side) sorted → Layer rects → Sides (strip_sides sorted side y1 y2)
+    strip_sides_lem rises d = record {
       few = omega (arith, length-filter (λ (u : Upright). ltb 0 u.rows) all_sides, count_by-le-length (λ (u : Upright). ltb 0 u.rows) all_sides, length-map sorted (side_in side y1 y2), sorted_count, d.few);
       small = All-filter (λ u. ltb 0 u.rows) SmallUpright all_sides (All-map SmallUpright (side_in side y1 y2) sorted (λ k e h. side_small side y1 y2 (get_or sorted k e) (sorted_small d.small k e h)));
-      rising = IsNonDecreasingBy-filter (λ u. u.column) (λ u. ltb 0 u.rows) all_sides (mapped sorted o.rises);
+      rising = IsNonDecreasingBy-filter (λ u. u.column) (λ u. ltb 0 u.rows) all_sides (mapped sorted rises);
     }
       where
         mapped : (rs : List Rect) → IsNonDecreasingBy (column side) rs → IsNonDecreasingBy (λ (u : Upright). u.column) (map (side_in side y1 y2) rs)
@@ -110,30 +111,28 @@ module _ (rects sorted : List Rect) (side : Side) (o : InOrder side rects sorted
 one_rect : (a b h x : ℕ) → h * (x - a) ≡ common a b 0 x * h + h * (x - max a b)
 one_rect a b h x = let e : x - a ≡ common a b 0 x + (x - max a b) = omega arith in omega (arith, ap (λ (k : ℕ). h * k) e)
 
-module _ (m : Sorted) (y1 y2 : ℕ) where
+-- all of the rectangles in two orders, one for the low sides and one for the high sides: what is added up along them does not depend on the orders
+module _ (rects by_low by_high : List Rect) (low : ∥ IsPermutation rects by_low ∥₁) (high : ∥ IsPermutation rects by_high ∥₁) (layer : Layer rects) (y1 y2 : ℕ) where
   abbrev between : (x1 x2 : ℕ) → Rect
   between x1 x2 = record { x1 = x1; y1 = y1; x2 = x2; y2 = y2 }
 
-  abbrev rects : List Rect
-  rects = m.rects.now
-
   abbrev low_list : List Upright
-  low_list = strip_sides m.lows.items Low y1 y2
+  low_list = strip_sides by_low Low y1 y2
 
   abbrev high_list : List Upright
-  high_list = strip_sides m.highs.items High y1 y2
+  high_list = strip_sides by_high High y1 y2
 
-  ramps_of : (side : Side) (sorted : List Rect) → InOrder side rects sorted → (x : ℕ) →
+  ramps_of : (side : Side) (sorted : List Rect) → ∥ IsPermutation rects sorted ∥₁ → (x : ℕ) →
       ramps (strip_sides sorted side y1 y2) x ≡ rect_sum rects (λ r. common r.y1 r.y2 y1 y2 * (x - column side r))
-  ramps_of side sorted o x = strip_sum_lem rects sorted side o y1 y2 (λ v h. h * (x - v)) (λ v. omega arith)
+  ramps_of side sorted all x = strip_sum_lem rects sorted side all y1 y2 (λ v h. h * (x - v)) (λ v. omega arith)
 
   -- the covered area left of a column
   left_area : (x : ℕ) → ramps low_list x ≡ covered_area rects (between 0 x) + ramps high_list x
   left_area x =
-      ramps_of Low m.lows.items m.low x
+      ramps_of Low by_low low x
       ∙ rect_cong rects _ _ (λ r. one_rect r.x1 r.x2 (common r.y1 r.y2 y1 y2) x)
       ∙ rect_plus rects _ _
-      ∙ ap₂ ◌+◌ (sym (overlap_is_area rects (between 0 x) m.layer.apart)) (sym (ramps_of High m.highs.items m.high x))
+      ∙ ap₂ ◌+◌ (sym (overlap_is_area rects (between 0 x) layer.apart)) (sym (ramps_of High by_high high x))
 
   -- and between two columns
   strip_area_lem : (x1 x2 : ℕ) → x1 ≤ x2 →
@@ -146,17 +145,28 @@ module _ (m : Sorted) (y1 y2 : ℕ) where
         box_cut_columns 0 y1 x2 y2 x1 (λ x y. one_if (covered rects x y)) (omega arith) h,
       )
 
-  -- so what the rows hold is a strip
-  pub strip_of : (lows highs : List Upright) → lows ≡ low_list → highs ≡ high_list → StripOf rects y1 y2 lows highs
+  pub areas_along : AreasAlong rects y1 y2 low_list high_list
+  areas_along x1 x2 h = omega (arith, strip_area_lem x1 x2 h)
+
+  -- so what the rows hold is a strip, where both rise, whichever side comes first on a tie
+  pub is_strip : IsNonDecreasingBy (column Low) by_low → IsNonDecreasingBy (column High) by_high → IsStrip low_list high_list
+  is_strip low_rises high_rises = record {
+    low = strip_sides_lem rects by_low Low low y1 y2 low_rises layer;
+    high = strip_sides_lem rects by_high High high y1 y2 high_rises layer;
+    grows = λ x1 x2 h. omega (arith, strip_area_lem x1 x2 h);
+  }
+
+module _ (m : Sorted) (y1 y2 : ℕ) where
+  abbrev rects : List Rect
+  rects = m.rects.now
+
+  pub strip_of : (lows highs : List Upright) → lows ≡ strip_sides m.lows.items Low y1 y2 → highs ≡ strip_sides m.highs.items High y1 y2 →
+      StripOf rects y1 y2 lows highs
   strip_of lows highs e f = rw (e, f) record {
     low = ap (λ (rs : List Rect). strip_sides rs Low y1 y2) m.low.exact;
     high = ap (λ (rs : List Rect). strip_sides rs High y1 y2) m.high.exact;
-    strip = record {
-      low = strip_sides_lem rects m.lows.items Low m.low y1 y2 m.layer;
-      high = strip_sides_lem rects m.highs.items High m.high y1 y2 m.layer;
-      grows = λ x1 x2 h. omega (arith, strip_area_lem x1 x2 h);
-    };
-    areas = λ x1 x2 h. omega (arith, strip_area_lem x1 x2 h);
+    strip = is_strip rects m.lows.items m.highs.items m.low.all m.high.all m.layer y1 y2 m.low.rises m.high.rises;
+    areas = areas_along rects m.lows.items m.highs.items m.low.all m.high.all m.layer y1 y2;
   }
 
 -- the strip of no rows has no sides

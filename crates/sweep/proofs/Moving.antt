@@ -162,7 +162,8 @@ module _ (s : List Upright) (x p i at rows moment : ℕ) (a : Advancing s x at r
 
 -- ---- both edges of a box, and the box
 
-edges_before : (s : List Upright) (e : Edges) (l r left right : ℕ) → e ≡ edges_at s l r → l ≤ left → r ≤ right → left ≤ right → right ≤ widest →
+-- true sums stand before all columns that are no further left, whatever the area of their box
+pub edges_before : (s : List Upright) (e : Edges) (l r left right : ℕ) → e ≡ edges_at s l r → l ≤ left → r ≤ right → left ≤ right → right ≤ widest →
     EdgesBefore s e left right
 edges_before s e l r left right q h k u z =
     record {
